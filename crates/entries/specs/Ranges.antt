@@ -32,7 +32,7 @@ pub record IsPlayer (teams : ℕ) (p : Player) : Type 0 where
   pub rating_most : p.rating ≤ 4000
   pub in_team : IsTeamOf teams p.team
 
--- a setup is good where each value is in its range and no two players and no two teams have one name
+-- a good setup: each value in its range, the names of players differ, and so do the names of teams
 pub record IsGood (s : Setup) : Type 0 where
   pub timed : IsControl s.control
   pub opens_before_end : s.starts < s.ends

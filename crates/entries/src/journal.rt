@@ -1,10 +1,10 @@
 use crate::setup::Setup;
 use conn::List;
 
-/// What an entry of a journal did. A number names a player by his place in the setup.
+/// What an entry of a journal did. A number names a player by his place in the setup, from 0.
 #[derive(Debug, Clone, Copy, PartialEq, Eq)]
 pub enum What {
-    /// The player entered, or came back.
+    /// The player entered.
     Enter(u32),
     /// The player left for good.
     Leave(u32),
@@ -13,9 +13,10 @@ pub enum What {
 /// One event of an arena.
 #[derive(Debug, Clone, Copy, PartialEq, Eq)]
 pub struct Entry {
-    /// Milliseconds since the arena's clock began: 0 to 1,000,000,000, and not below the entry before.
+    /// Milliseconds since the arena's clock began, at most 1,000,000,000 in a journal's text. In a legal journal it is not
+    /// below that of the entry before.
     pub stamp: u64,
-    /// The number of the pass that made the entry: 0 to 255.
+    /// The number of the pass that made the entry, at most 255 in a journal's text.
     pub pass: u32,
     pub what: What,
 }

@@ -1,20 +1,22 @@
 use conn::{List, Text};
 
-/// The time control of every game of an arena, in milliseconds.
+/// The time control of every game of an arena.
 #[derive(Debug, Clone, Copy, PartialEq, Eq)]
 pub struct Control {
-    /// What each side starts with: whole seconds, up to 10,800.
+    /// What each side starts with, in milliseconds: 0 to 10,800,000, whole seconds. Where it is 0, each side starts with
+    /// `inc_ms`.
     pub initial_ms: u64,
-    /// What each move adds from the second on: whole seconds, up to 180. Not 0 where `initial_ms` is.
+    /// What each move adds from a side's second on, in milliseconds: 0 to 180,000, whole seconds. Not 0 where `initial_ms`
+    /// is.
     pub inc_ms: u64,
-    /// How long a side has for its first move: 1,000 to 300,000.
+    /// How long a side has for its first move, in milliseconds: 1,000 to 300,000.
     pub first_ms: u64,
 }
 
 /// A player of an arena.
 #[derive(Debug, Drop)]
 pub struct Player {
-    /// 1 to 20 letters, digits, `_` or `-`; no other player has it.
+    /// 1 to 20 bytes, each a letter, a digit, `_` or `-`. No other player has it.
     pub name: Text,
     /// 400 to 4,000 rating points.
     pub rating: u32,
@@ -28,14 +30,14 @@ pub struct Setup {
     pub control: Control,
     /// The first millisecond at which a wave may start games.
     pub starts: u64,
-    /// The millisecond from which players no longer enter, waves no longer start games and games no longer count: above
+    /// The millisecond from which no player enters or leaves, no wave starts games and no game that ends counts: above
     /// `starts`, at most 900,000,000.
     pub ends: u64,
-    /// Milliseconds from one wave to the next: 100 to 600,000.
+    /// How many milliseconds lie at least between two waves: 100 to 600,000.
     pub wave_ms: u64,
     /// How many players of a team count for it: 1 to 20.
     pub leaders: u32,
-    /// Up to 100 names of teams, each another one.
+    /// Up to 100 names of teams, no two the same.
     pub teams: List<Text>,
     /// 1 to 1,000 players. A player's number is his place here, from 0.
     pub players: List<Player>,

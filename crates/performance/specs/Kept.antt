@@ -2,6 +2,7 @@
 use Rattle.std.specs.Prelude.{◌≡◌, ℕ, ℤ, List, length}
 use Rattle.performance.specs.Mean.{Met, total}
 
+-- the sum of the ratings with their bonus, and how many games they are of
 pub record Kept : Type 0 where
   pub sum : ℤ
   pub games : ℕ

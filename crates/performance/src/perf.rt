@@ -37,7 +37,8 @@ impl Perf {
         requires rated { rating ≤ 4000 }
         requires room { self.old.games < 200000 }
         ensures counted { self.new.games ≡ self.old.games + 1 }
-        ensures stands { (met : List Met) → StandsFor self.old met → StandsFor self.new (met ++ record { rating = rating; score = score } ∷ []) }
+        ensures stands { (met : List Met) → StandsFor self.old met
+            → StandsFor self.new (met ++ record { rating = rating; score = score } ∷ []) }
     {
         self.sum += i64::from(rating) + bonus(score);
         self.games += 1;
@@ -45,8 +46,11 @@ impl Perf {
 
     /// The floor of the mean, from -500 to 4,500 rating points, and 0 without games.
     pub fn value(&self) -> i64
+        ensures least { negsuc 499 ≤ℤ result }
+        ensures most { result ≤ℤ pos 4500 }
         ensures value { (met : List Met) → StandsFor self.now met → result ≡ performance met }
-        ensures floor { (met : List Met) → StandsFor self.now met → 0 < length met → IsFloorOfMean result (total met) (length met) }
+        ensures floor { (met : List Met) → StandsFor self.now met → 0 < length met
+            → IsFloorOfMean result (total met) (length met) }
     {
         if self.games == 0 {
             0

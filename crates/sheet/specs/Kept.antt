@@ -2,6 +2,7 @@
 use Rattle.std.specs.Prelude.{◌≡◌, ℕ, Bool, List, length}
 use Rattle.sheet.specs.Worth.{Played, looking_back, last_won, last_two_won, draw_streak, points}
 
+-- the points and the number of the games, and what the next game's worth depends on
 pub record Kept : Type 0 where
   pub points : ℕ
   pub games : ℕ

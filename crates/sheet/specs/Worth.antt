@@ -10,10 +10,15 @@ pub record Played : Type 0 where
   pub berserk : Bool
   pub plies : ℕ
 
+-- a game that ended with this score, with or without a berserk, after so many plies
+abbrev pub game_of : Score → Bool → ℕ → Played
+game_of score berserk plies = record { score = score; berserk = berserk; plies = plies }
+
 -- the games before one, the latest first
 abbrev pub looking_back : List Played → List Played
 looking_back before = reverse before
 
+-- whether a game ended in a win
 abbrev pub is_win : Score → Bool
 is_win Win = true
 is_win Draw = false
@@ -35,7 +40,7 @@ streak_after Win plies streak = false
 streak_after Draw plies streak = nat_le 20 plies || streak
 streak_after Loss plies streak = streak
 
--- going back over losses and draws of fewer than 20 plies, a draw of at least 20 plies comes before any win
+-- since the last win there was a draw of 20 plies or more
 abbrev pub draw_streak : List Played → Bool
 draw_streak [] = false
 draw_streak (last ∷ older) = streak_after last.score last.plies (draw_streak older)
@@ -60,6 +65,7 @@ worth_after back game =
     let base = base_points game.score game.plies (draw_streak back) in
     (if last_two_won back then 2 * base else base) + berserk_points game
 
+-- the same for a game that may not be there
 abbrev pub worth_of : List Played → Option Played → ℕ
 worth_of back None = 0
 worth_of back (Some game) = worth_after back game

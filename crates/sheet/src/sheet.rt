@@ -1,6 +1,6 @@
-ghost use Rattle.std.specs.Prelude.{◌≡◌, ◌+◌, ◌<◌, ◌++◌, ◌∷◌, [], ℕ, List, length};
+ghost use Rattle.std.specs.Prelude.{◌≡◌, ◌+◌, ◌<◌, ◌≤◌, ◌++◌, ◌∷◌, [], ℕ, List, length};
 ghost use Rattle.sheet.specs.Kept.{StandsFor};
-ghost use Rattle.sheet.specs.Worth.{Played, worth, points, last_two_won, looking_back};
+ghost use Rattle.sheet.specs.Worth.{Played, game_of, worth, points, last_two_won, looking_back};
 
 use crate::score::Score;
 use std::marker::Model;
@@ -45,8 +45,11 @@ impl Sheet {
     pub fn add(&mut self, score: Score, berserk: bool, plies: u32) -> u32
         requires { self.old.games < 200000 }
         ensures counted { self.new.games ≡ self.old.games + 1 }
-        ensures worth { (played : List Played) → StandsFor self.old played → result ≡ worth (played ++ record { score = score; berserk = berserk; plies = plies } ∷ []) (length played) }
-        ensures stands { (played : List Played) → StandsFor self.old played → StandsFor self.new (played ++ record { score = score; berserk = berserk; plies = plies } ∷ []) }
+        ensures most { result ≤ 5 }
+        ensures worth { (played : List Played) → StandsFor self.old played
+            → result ≡ worth (played ++ game_of score berserk plies ∷ []) (length played) }
+        ensures stands { (played : List Played) → StandsFor self.old played
+            → StandsFor self.new (played ++ game_of score berserk plies ∷ []) }
     {
         let base = base_points(score, plies, self.draw_streak);
         let worth = doubled(base, self.last_two_won) + berserk_points(score, berserk, plies);
@@ -58,9 +61,10 @@ impl Sheet {
         worth
     }
 
-    /// The points of all games together.
+    /// The points of all games together, at most 1,000,000.
     pub fn points(&self) -> u32
-        ensures { (played : List Played) → StandsFor self.now played → result ≡ points played }
+        ensures most { result ≤ 1000000 }
+        ensures points { (played : List Played) → StandsFor self.now played → result ≡ points played }
     {
         self.points
     }
@@ -81,7 +85,7 @@ impl Sheet {
     }
 }
 
-ghost use Rattle.std.specs.Prelude.{◌≤◌, ◌*◌, ◌&&◌, if◌then◌else◌};
+ghost use Rattle.std.specs.Prelude.{◌*◌, ◌&&◌, if◌then◌else◌};
 ghost use Rattle.sheet.specs.Worth.{is_win, base_points, draw_points, berserk_points, streak_after};
 
 fn is_win(score: Score) -> bool
@@ -130,7 +134,7 @@ fn base_points(score: Score, plies: u32, streak: bool) -> u32
 }
 
 fn berserk_points(score: Score, berserk: bool, plies: u32) -> u32
-    ensures worth { result ≡ berserk_points (record { score = score; berserk = berserk; plies = plies }) }
+    ensures worth { result ≡ berserk_points (game_of score berserk plies) }
     ensures most { result ≤ 1 }
 {
     if score == Score::Win && berserk && plies >= 14 {

@@ -1,4 +1,4 @@
--- A piece that was taken out of the front of a list, and what is left behind it.
+-- What a read puts into a buffer, against what was there to read.
 use Rattle.std.proofs.Common.{◌≡◌, ◌≤◌, ◌+◌, ℕ, List, take, drop, length, ◌++◌, sym, ap, ◌∙◌, arith, length-drop}
 use Rattle.std.proofs.lemmas.List.{take_at, take-append-drop, drop-drop, length-take-le}
 

@@ -1,4 +1,4 @@
--- When a fault of the outside may be answered: only where the object's own count of faults rose.
+-- When a fault of the outside may be answered: only where the object's own count of faults rose, or stands at its last value.
 use Rattle.std.specs.Prelude.{ℕ, ◌+◌, ◌-◌, ◌^◌, ◌≤◌, min, Result, OnErr}
 
 -- one more, or the last value of a count of 64 bits

@@ -14,7 +14,7 @@ Gained old new bytes = new ≡ followed_by old bytes
 abbrev pub GainedPart : Option (List ℕ) → Option (List ℕ) → List ℕ → Type 0
 GainedPart old new bytes = (n : ℕ) × Gained old new (take n bytes)
 
--- a write appends the first k bytes of the piece, or nothing where it fails
+-- a write takes the first k bytes of the piece, at least one if there is one, or nothing where it fails
 abbrev pub Appends : {E : Type 0} → Option (List ℕ) → Option (List ℕ) → List ℕ → Result ℕ E → Type 0
 Appends old new bytes (Ok k) = (k ≤ length bytes) × Gained old new (take k bytes) × (0 < length bytes → 0 < k)
 Appends old new bytes (Err e) = new ≡ old

@@ -1,6 +1,6 @@
-ghost use Rattle.std.specs.Prelude.{◌≡◌, ◌≤◌, ◌↔◌, min, length, Some, [], IsErr, IsOk, IfOk};
+ghost use Rattle.std.specs.Prelude.{◌≡◌, ◌≤◌, ◌↔◌, length, Some, [], IsErr, IsOk, IfOk};
 ghost use Rattle.conn.specs.Faults.{FailsOnlyByFault};
-ghost use Rattle.conn.specs.Memory.{Refuses, after_write};
+ghost use Rattle.conn.specs.Memory.{store_of, Refuses, taken_count, after_write};
 ghost use Rattle.conn.specs.Told.{Appends};
 
 use crate::source::{Failed, Sink};
@@ -24,14 +24,23 @@ impl Model for MemSink {
 
     ghost Value = { Store };
 
-    ghost view = { λ s. record { held = s.bytes.items; room = s.room; piece = s.piece; calls = s.calls; fail = s.fail.items; faults = s.faults } };
+    ghost view = { λ s. record {
+      held = s.bytes.items;
+      room = s.room;
+      piece = s.piece;
+      calls = s.calls;
+      fail = s.fail.items;
+      faults = s.faults;
+    } };
 
-    ghost invariant = { λ s. (vec_len s.bytes + s.room ≤ vec_capacity s.bytes) × (1 ≤ s.piece) };
+    ghost invariant = { λ s.
+        (vec_len s.bytes + s.room ≤ vec_capacity s.bytes) × (1 ≤ s.piece) };
 }
 
 impl MemSink {
-    /// An empty sink with room for so many bytes, of which a call takes at most `piece`. The calls that are numbered in
-    /// `fail`, from 0, fail, and so does a write of at least one byte where no room is left. All its memory is taken here.
+    /// An empty sink with room for so many bytes, of which a call takes at most `piece`. `fail` has the numbers of the calls
+    /// that are to fail, the first call being 0. A write that has a byte and finds no room fails too. All its memory is
+    /// taken here.
     pub fn new(
         alloc: Global,
         room: usize,
@@ -39,7 +48,7 @@ impl MemSink {
         fail: Vec<u64>,
     ) -> Result<MemSink, AllocError>
         requires { 1 ≤ piece }
-        ensures { IfOk result (λ sink. sink ≡ record { held = []; room = room; piece = piece; calls = 0; fail = fail.items; faults = 0 }) }
+        ensures { IfOk result (λ sink. sink ≡ store_of room piece fail.items) }
     {
         let bytes = Vec::with_capacity(alloc, room)?;
         Ok(MemSink {
@@ -71,11 +80,12 @@ impl Sink for MemSink {
 
         // Which calls fail, how much the others take, and what is held after it all.
         ensures fails { IsErr result ↔ Refuses self.old bytes.now }
-        ensures count { IfOk result (λ k. k ≡ min (min (length bytes.now) self.old.room) self.old.piece) }
+        ensures count { IfOk result (λ k. k ≡ taken_count self.old bytes.now) }
         ensures after { self.new ≡ after_write self.old bytes.now result }
 
         // Where no call is to fail and there is room enough, none does.
-        ensures faultless { self.old.fail ≡ [] → length bytes.now ≤ self.old.room → IsOk result × (self.new.faults ≡ self.old.faults) }
+        ensures faultless { self.old.fail ≡ [] → length bytes.now ≤ self.old.room
+            → IsOk result × (self.new.faults ≡ self.old.faults) }
     {
         let call = self.calls;
         self.calls = self.calls.saturating_add(1);

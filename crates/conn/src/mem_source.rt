@@ -1,8 +1,8 @@
-ghost use Rattle.std.specs.Prelude.{◌≡◌, ◌≤◌, ◌↔◌, min, length, Some, [], IsErr, IsOk, IfOk};
+ghost use Rattle.std.specs.Prelude.{◌≡◌, ◌≤◌, ◌↔◌, Some, [], IsErr, IsOk, IfOk};
 ghost use Rattle.std.specs.Io.{ReadsAtMost};
 ghost use Rattle.std.specs.Io.KnownBytes.{ReadConsumes};
 ghost use Rattle.conn.specs.Faults.{FailsOnlyByFault};
-ghost use Rattle.conn.specs.Memory.{WillFail, after_read};
+ghost use Rattle.conn.specs.Memory.{supply_of, WillFail, given_count, after_read};
 
 use crate::source::{Failed, Source};
 use std::marker::Model;
@@ -24,17 +24,23 @@ impl Model for MemSource {
 
     ghost Value = { Supply };
 
-    ghost view = { λ s. record { left = drop s.at s.bytes.items; piece = s.piece; calls = s.calls; fail = s.fail.items; faults = s.faults } };
+    ghost view = { λ s. record {
+      left = drop s.at s.bytes.items;
+      piece = s.piece;
+      calls = s.calls;
+      fail = s.fail.items;
+      faults = s.faults;
+    } };
 
     ghost invariant = { λ s. (s.at ≤ length s.bytes.items) × (1 ≤ s.piece) };
 }
 
 impl MemSource {
-    /// A source that gives these bytes, at most `piece` of them per call. The calls that are numbered in `fail`, from 0,
-    /// fail. Takes no memory.
+    /// A source that gives these bytes, at most `piece` of them per call. `fail` has the numbers of the calls that are to
+    /// fail, the first call being 0. Takes no memory.
     pub fn new(bytes: Vec<u8>, piece: usize, fail: Vec<u64>) -> MemSource
         requires { 1 ≤ piece }
-        ensures { result ≡ record { left = bytes.items; piece = piece; calls = 0; fail = fail.items; faults = 0 } }
+        ensures { result ≡ supply_of bytes.items piece fail.items }
     {
         MemSource {
             bytes,
@@ -66,11 +72,12 @@ impl Source for MemSource {
 
         // Which calls fail, how much the others give, and what is left of it all.
         ensures fails { IsErr result ↔ WillFail self.old }
-        ensures count { IfOk result (λ k. k ≡ min (min (length self.old.left) (length buf.new)) self.old.piece) }
+        ensures count { IfOk result (λ k. k ≡ given_count self.old buf.old) }
         ensures after { self.new ≡ after_read self.old result }
 
         // Where no call is to fail, none does.
-        ensures faultless { self.old.fail ≡ [] → IsOk result × (self.new.faults ≡ self.old.faults) }
+        ensures faultless { self.old.fail ≡ []
+            → IsOk result × (self.new.faults ≡ self.old.faults) }
     {
         let call = self.calls;
         self.calls = self.calls.saturating_add(1);

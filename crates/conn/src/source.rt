@@ -14,9 +14,9 @@ pub trait Source {
 
     ghost faults: { Self → ℕ };
 
-    /// Places the next bytes at the start of `buf` and says how many they are. Where the bytes are told, `Ok(0)` for a
-    /// buffer that is not empty comes exactly at the end. `Failed` takes nothing, and comes only where the count of
-    /// faults rose in this call or stands at its last value.
+    /// Puts the next bytes at the start of `buf` and says how many they are. Where the bytes are told, a buffer with room
+    /// gets none only where none is left. A read that failed took none, and fails only where the count of faults rose in
+    /// this call or stands at its last value.
     fn read(&mut self, buf: &mut [u8]) -> Result<usize, Failed>
         ensures bound { ReadsAtMost result buf.new }
         ensures bytes { ReadConsumes (left self.old) (left self.new) result buf.new }
@@ -29,8 +29,8 @@ pub trait Sink {
 
     ghost faults: { Self → ℕ };
 
-    /// Appends the first bytes of the piece and says how many they are, at least one where the piece is not empty.
-    /// `Failed` appends nothing, and comes only where the count of faults rose in this call or stands at its last value.
+    /// Appends the first bytes of the piece and says how many they are: of a piece with bytes, at least one. A write that
+    /// failed left none, and fails only where the count of faults rose in this call or stands at its last value.
     fn write(&mut self, bytes: &[u8]) -> Result<usize, Failed>
         ensures bytes { Appends (held self.old) (held self.new) bytes.now result }
         ensures cause { FailsOnlyByFault (faults self.old) (faults self.new) result };

@@ -34,12 +34,16 @@ fn read_piece<S: Source>(
     bytes: &mut Vec<u8>,
 ) -> Result<usize, ReadAllFault>
     ensures few { IfOk result (λ count. count ≤ length piece.new) }
-    ensures came { IfOk result (λ count. Consumes (S.left source.old) (S.left source.new) (take count piece.new)) }
-    ensures put { IfOk result (λ count. bytes.new.items ≡ bytes.old.items ++ take count piece.new) }
-    ensures end { IfOk result (λ count. count ≡ 0 → 0 < length piece.new → IsAtEnd (S.left source.new)) }
+    ensures came { IfOk result (λ count.
+        Consumes (S.left source.old) (S.left source.new) (take count piece.new)) }
+    ensures put { IfOk result (λ count.
+        bytes.new.items ≡ bytes.old.items ++ take count piece.new) }
+    ensures end { IfOk result (λ count.
+        count ≡ 0 → 0 < length piece.new → IsAtEnd (S.left source.new)) }
 
     ensures not_too_long { result ≡ Err ReadAllFault.TooLong → ⊥ }
-    ensures fault { result ≡ Err ReadAllFault.ReadFault → Rose (S.faults source.old) (S.faults source.new) }
+    ensures fault { result ≡ Err ReadAllFault.ReadFault
+        → Rose (S.faults source.old) (S.faults source.new) }
 
     ensures kept { S.faults source.old ≤ S.faults source.new }
     ensures taken { GaveAtMost (S.left source.old) (S.left source.new) (length piece.old) }
@@ -60,12 +64,14 @@ pub fn read_all<S: Source>(
     source: &mut S,
     limit: usize,
 ) -> Result<Vec<u8>, ReadAllFault>
-    ensures all { IfOk result (λ bytes. GaveAll (S.left source.old) (S.left source.new) bytes.items) }
+    ensures all { IfOk result (λ bytes.
+        GaveAll (S.left source.old) (S.left source.new) bytes.items) }
     ensures within { IfOk result (λ bytes. length bytes.items ≤ limit) }
 
     // The causes of what is no `Ok`.
     ensures too_long { result ≡ Err ReadAllFault.TooLong → HadMore (S.left source.old) limit }
-    ensures fault { result ≡ Err ReadAllFault.ReadFault → Rose (S.faults source.old) (S.faults source.new) }
+    ensures fault { result ≡ Err ReadAllFault.ReadFault
+        → Rose (S.faults source.old) (S.faults source.new) }
 
     // Whatever it answers.
     ensures kept { S.faults source.old ≤ S.faults source.new }

@@ -1,6 +1,6 @@
 use Rattle.std.proofs.Common.{arith, ◌+◌, length-take}
 use Rattle.conn.proofs.Giving.{GaveAtMost-after}
-use Rattle.conn.proofs.read_to_end.read_all.Goals as goal
+use Rattle.conn.proofs.read_whole.read_all.Goals as goal
 
 pub returns-in_err-count-clause-taken : goal.returns-in_err-count-clause-taken
 returns-in_err-count-clause-taken g c =

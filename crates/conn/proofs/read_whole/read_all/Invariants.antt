@@ -1,7 +1,7 @@
 use Rattle.std.proofs.Common.{◌≡◌, ◌≤◌, ◌+◌, ◌-◌, vec_len}
 use Rattle.std.specs.Io.KnownBytes.{Consumes}
-use Rattle.conn.specs.declared.read_to_end.TheConstants.{PIECE}
-use Rattle.conn.proofs.read_to_end.read_all.Given as goal
+use Rattle.conn.specs.declared.read_whole.TheConstants.{PIECE}
+use Rattle.conn.proofs.read_whole.read_all.Given as goal
 
 abbrev pub invariant-loop-bytes : goal.invariant-loop-bytes
 invariant-loop-bytes g l =

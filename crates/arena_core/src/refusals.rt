@@ -1,0 +1,40 @@
+ghost use Rattle.std.specs.Prelude.{◌≡◌};
+ghost use Rattle.history.specs.Legal.{enter_refusal, leave_refusal, or_full};
+
+use entries::Entry;
+use history::{Refusal, Wish};
+
+/// How many entries a journal has at most.
+const MAX_ENTRIES: usize = 8_000_000;
+
+/// Whether a player of this wish may enter.
+pub fn enter_refusal(wish: Wish) -> Option<Refusal>
+    ensures { result ≡ enter_refusal wish }
+{
+    match wish {
+        Wish::Absent => None,
+        Wish::In => Some(Refusal::AlreadyIn),
+        Wish::Left => Some(Refusal::Left),
+    }
+}
+
+/// Whether a player of this wish may leave.
+pub fn leave_refusal(wish: Wish) -> Option<Refusal>
+    ensures { result ≡ leave_refusal wish }
+{
+    match wish {
+        Wish::Absent => Some(Refusal::NotEntered),
+        Wish::In => None,
+        Wish::Left => Some(Refusal::Left),
+    }
+}
+
+/// What refuses a command, where the journal may be full besides.
+pub fn or_full(entries: &[Entry], refusal: Option<Refusal>) -> Option<Refusal>
+    ensures { result ≡ or_full entries.now refusal }
+{
+    match refusal {
+        None if entries.len() >= MAX_ENTRIES => Some(Refusal::Full),
+        _ => refusal,
+    }
+}

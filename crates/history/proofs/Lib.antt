@@ -1,0 +1,9 @@
+pub mod Entered
+pub mod Histories
+pub mod Legality
+pub mod Lists
+pub mod Orders
+pub mod Stamps
+pub mod Tables
+pub mod Walks
+pub mod WishLaws

@@ -1,0 +1,8 @@
+/// What a player may ask of an arena. A number names a player by his place in the setup.
+#[derive(Debug, Clone, Copy, PartialEq, Eq)]
+pub enum Command {
+    /// The player enters.
+    Enter(u32),
+    /// The player leaves for good.
+    Leave(u32),
+}

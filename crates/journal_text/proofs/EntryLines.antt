@@ -1,0 +1,222 @@
+-- The lines of the entries: what they say is what they were written from, and what was written is read again.
+use Rattle.std.proofs.Common.{◌≡◌, ℕ, ◌^◌, ◌<◌, ◌≤◌, Bool, true, false, cond, eqb, leb, ltb, ◌&&◌, List, [], ◌∷◌, ◌++◌, length, All, Option, Some, None, Result, Ok, Err, option_and_then, refl, sym, ap, subst, ◌∙◌, arith, inl, inr, append_assoc, append-nil}
+use Rattle.std.specs.Prelude.{codes}
+use Rattle.std.specs.Char.{is_ascii_digit}
+use Rattle.std.specs.Fmt.{decimal}
+use Rattle.std.specs.List.{AllByRecursion, flat_map}
+use Rattle.std.specs.Str.{bytes_eq, all_ascii_digits}
+use Rattle.std.proofs.lemmas.Bool.{cases_Bool, and_parts, and_from, leb-true, le-leb, ltb-true, lt-ltb, ne_eqb}
+use Rattle.std.proofs.lemmas.Slice.Eq.{bytes_eq-Decides}
+use Rattle.std.proofs.lemmas.Fmt.{decimal_nonempty}
+use Rattle.std.proofs.lemmas.List.{length-append, length_push}
+use Rattle.std.proofs.lemmas.List.Elements.{All-nil, All-push}
+use Rattle.decimals.specs.Decimals.{number_of}
+use Rattle.decimals.proofs.DecimalLemmas.{number_of-decimal, all_digits-decimal}
+use Rattle.entries.specs.Ranges.{IsWhatOf, IsEntryOf}
+use Rattle.entries.specs.declared.journal.What.{What}
+use Rattle.entries.specs.declared.journal.What.TheVariants as what
+use Rattle.entries.specs.declared.journal.Entry.{Entry}
+use Rattle.journal_text.specs.declared.entry_lines.Kind.{Kind}
+use Rattle.journal_text.specs.declared.entry_lines.Kind.TheVariants.{Enter, Leave}
+use Rattle.journal_text.specs.declared.fault.JournalCause.TheVariants.{Form}
+use Rattle.journal_text.specs.declared.fault.JournalFault.{JournalFault}
+use Rattle.journal_text.specs.Lines.{spaced, line, lines_of, words_of, first, two}
+use Rattle.journal_text.specs.Text.{what_words, entry_line}
+use Rattle.journal_text.specs.Forms.{kind_of, what_form, entry_form, entry_fits, what_made, entry_made, entry_in}
+use Rattle.journal_text.specs.Reading.{◌>>◌, at_line, follows, entries_in}
+use Rattle.journal_text.proofs.Fails.{bind_some, guard_some, some, some_is, line_ok, judged_ok, judged_again, text_ok_is, bind_ok, at_line_ok, then_ok, passed}
+use Rattle.journal_text.proofs.FormLemmas.{same_word, two_is, first_is, decimal_is}
+use Rattle.journal_text.proofs.WordLemmas.{IsWord, tested_word, words_of-spaced, next-line, IsWord-decimal}
+use Rattle.journal_text.proofs.ReadLines.{joined, spelled_words}
+use Rattle.journal_text.proofs.Steps.{entries_step}
+use Rattle.journal_text.proofs.HeadLines.{number_is_words}
+
+-- ---- an entry
+
+abbrev pub entry_words : Entry → List (List ℕ)
+entry_words e = decimal e.stamp ∷ decimal e.pass ∷ what_words e.what
+
+kind_takes : (word : List ℕ) (player : ℕ) (kind : Kind) → kind_of word ≡ Some kind → word ∷ decimal player ∷ [] ≡ what_words (what_made kind player)
+unfolding kind_of
+kind_takes word player kind e =
+    elim (cases_Bool (bytes_eq word (codes "enter"))) [
+      | inl enter ↦ subst (λ (kind : Kind). word ∷ decimal player ∷ [] ≡ what_words (what_made kind player)) (some_is Enter kind (rw enter at e)) (ap (λ (w : List ℕ). w ∷ decimal player ∷ []) (same_word word (codes "enter") enter))
+      | inr other ↦
+          let g = guard_some (bytes_eq word (codes "leave")) (Some Leave) kind (rw other at e) in
+          subst (λ (kind : Kind). word ∷ decimal player ∷ [] ≡ what_words (what_made kind player)) (some_is Leave kind g.1) (ap (λ (w : List ℕ). w ∷ decimal player ∷ []) (same_word word (codes "leave") g.0))
+    ]
+
+what_takes : (words : List (List ℕ)) (did : Kind × ℕ) → what_form words ≡ Some did → words ≡ what_words (what_made did.0 did.1)
+unfolding what_form
+what_takes words did e =
+    let w = bind_some (two words) _ did e in
+    let k = bind_some (kind_of w.0.0) _ did w.2 in
+    let n = bind_some (number_of w.0.1) (λ n. Some (k.0, n)) did k.2 in
+    subst (λ (did : Kind × ℕ). words ≡ what_words (what_made did.0 did.1)) (some_is (k.0, n.0) did n.2) (two_is words w.0 w.1 ∙ ap (λ (x : List ℕ). w.0.0 ∷ x ∷ []) (decimal_is w.0.1 n.0 n.1) ∙ kind_takes w.0.0 n.0 k.0 k.1)
+
+entry_fields : (a b : Option ℕ) (d : Option (Kind × ℕ)) (e : ℕ × ℕ × Kind × ℕ) → option_and_then (λ s. option_and_then (λ p. option_and_then (λ (did : Kind × ℕ). Some (s, p, did.0, did.1)) d) b) a ≡ Some e → (a ≡ Some e.0) × (b ≡ Some e.1) × (d ≡ Some (e.2, e.3))
+entry_fields None b d e h = absurd cc
+entry_fields (Some s) None d e h = absurd cc
+entry_fields (Some s) (Some p) None e h = absurd cc
+entry_fields (Some s) (Some p) (Some did) e h = subst (λ (e : ℕ × ℕ × Kind × ℕ). (some s ≡ some e.0) × (some p ≡ some e.1) × (some did ≡ some (e.2, e.3))) (some_is (s, p, did.0, did.1) e h) (refl, refl, refl)
+
+three_parts : (a b x y : List ℕ) (more others : List (List ℕ)) → a ≡ x → b ≡ y → more ≡ others → a ∷ b ∷ more ≡ x ∷ y ∷ others
+three_parts a b x y more others p q r = cc
+
+entry_form_is : (words : List (List ℕ)) (e : ℕ × ℕ × Kind × ℕ) → entry_form words ≡ Some e → words ≡ entry_words (entry_made e)
+unfolding entry_form
+entry_form_is words e h =
+    let a = bind_some (first words) _ e h in
+    let b = bind_some (first a.0.1) _ e a.2 in
+    let f = entry_fields (number_of a.0.0) (number_of b.0.0) (what_form b.0.1) e b.2 in
+    let stamp : a.0.0 ≡ decimal e.0 = decimal_is a.0.0 e.0 f.0 in
+    let pass : b.0.0 ≡ decimal e.1 = decimal_is b.0.0 e.1 f.1 in
+    let did : b.0.1 ≡ what_words (what_made e.2 e.3) = what_takes b.0.1 (e.2, e.3) f.2 in
+    first_is words a.0 a.1 ∙ ap (λ (more : List (List ℕ)). a.0.0 ∷ more) (first_is a.0.1 b.0 b.1) ∙ three_parts a.0.0 b.0.0 (decimal e.0) (decimal e.1) b.0.1 (what_words (what_made e.2 e.3)) stamp pass did
+
+what_in_range : (players : ℕ) (kind : Kind) (player : ℕ) → player < players → IsWhatOf players (what_made kind player)
+what_in_range players Enter player below = below
+what_in_range players Leave player below = below
+
+pub entry_takes : (players : ℕ) (words : List (List ℕ)) (e : Entry) → entry_in players words ≡ Ok e → (words ≡ entry_words e) × IsEntryOf players e
+unfolding entry_in
+entry_takes players words e h =
+    let j = judged_ok (entry_form words) (entry_fits players) entry_made e h in
+    let fit = and_parts (leb j.0.0 1000000000 && leb j.0.1 255) (ltb j.0.3 players) j.2 in
+    let low = and_parts (leb j.0.0 1000000000) (leb j.0.1 255) fit.0 in
+    subst (λ (e : Entry). (words ≡ entry_words e) × IsEntryOf players e) j.3 (entry_form_is words j.0 j.1, record { stamp_most = leb-true j.0.0 1000000000 low.0; pass_most = leb-true j.0.1 255 low.1; what = what_in_range players j.0.2 j.0.3 (ltb-true j.0.3 players fit.1) })
+
+kind_again : (did : What) (players : ℕ) → players ≤ 1000 → IsWhatOf players did → (kind : Kind) × (player : ℕ) × (what_form (what_words did) ≡ Some (kind, player)) × (what_made kind player ≡ did) × (player < players)
+unfolding what_form kind_of
+kind_again (what.Enter player) players most h = (Enter, player, rw (number_of-decimal player (omega (arith, h))) refl, refl, h)
+kind_again (what.Leave player) players most h = (Leave, player, rw (number_of-decimal player (omega (arith, h))) refl, refl, h)
+
+first_what : (word : List ℕ) (did : What) → first (word ∷ what_words did) ≡ Some (word, what_words did)
+first_what word (what.Enter player) = refl
+first_what word (what.Leave player) = refl
+
+pub entry_again : (players : ℕ) (e : Entry) → players ≤ 1000 → IsEntryOf players e → entry_in players (entry_words e) ≡ Ok e
+unfolding entry_in entry_form
+entry_again players e most h =
+    let did = kind_again e.what players most h.what in
+    let formed : entry_form (entry_words e) ≡ Some (e.stamp, e.pass, did.0, did.1) = rw (first_what (decimal e.pass) e.what, number_of-decimal e.stamp (omega (arith, h.stamp_most)), number_of-decimal e.pass (omega (arith, h.pass_most)), did.2) refl in
+    judged_again (entry_form (entry_words e)) (entry_fits players) entry_made (e.stamp, e.pass, did.0, did.1) formed (and_from (leb e.stamp 1000000000 && leb e.pass 255) (ltb did.1 players) (and_from (leb e.stamp 1000000000) (leb e.pass 255) (le-leb e.stamp 1000000000 h.stamp_most) (le-leb e.pass 255 h.pass_most)) (lt-ltb did.1 players did.4))
+    ∙ ap (λ (what : What). line_ok (record { stamp = e.stamp; pass = e.pass; what = what })) did.3
+
+-- ---- the words of these lines
+
+what_is_words : (players : ℕ) (did : What) → players ≤ 1000 → IsWhatOf players did → AllByRecursion IsWord (what_words did)
+what_is_words players (what.Enter player) most h = number_is_words (codes "enter") player (tested_word (codes "enter") refl) (omega (arith, h))
+what_is_words players (what.Leave player) most h = number_is_words (codes "leave") player (tested_word (codes "leave") refl) (omega (arith, h))
+
+pub entry_is_words : (players : ℕ) (e : Entry) → players ≤ 1000 → IsEntryOf players e → AllByRecursion IsWord (entry_words e)
+entry_is_words players e most h = (IsWord-decimal e.stamp (omega (arith, h.stamp_most)), (IsWord-decimal e.pass (omega (arith, h.pass_most)), what_is_words players e.what most h.what))
+
+pub end_is_words : AllByRecursion IsWord (codes "end" ∷ [])
+end_is_words = (tested_word (codes "end") refl, tt)
+
+-- ---- what was written is read again
+
+-- a decimal begins with a digit
+digit_front : (digits : List ℕ) → 0 < length digits → all_ascii_digits digits ≡ true → (digit : ℕ) × (more : List ℕ) × (digits ≡ digit ∷ more) × (digit ≤ 57)
+digit_front [] some all = absurd (omega arith)
+digit_front (digit ∷ digits) some all =
+    let parts = and_parts (is_ascii_digit digit) (all_ascii_digits digits) all in
+    let range = and_parts (leb 48 digit) (leb digit 57) parts.0 in
+    (digit, digits, refl, leb-true digit 57 range.1)
+
+pub decimal_front : (n : ℕ) → n < 10 ^ 10 → (digit : ℕ) × (more : List ℕ) × (decimal n ≡ digit ∷ more) × (digit ≤ 57)
+decimal_front n small = digit_front (decimal n) (decimal_nonempty n (omega (arith, small))) (all_digits-decimal n small)
+
+-- no line of an entry is `end`
+not_end : (n : ℕ) (more : List ℕ) → n < 10 ^ 10 → bytes_eq (decimal n ++ more) (codes "end") ≡ false
+not_end n more small =
+    let front = decimal_front n small in
+    let other : eqb front.0 101 ≡ false = ne_eqb front.0 101 (λ same. omega (arith, front.3)) in
+    rw (front.2, other) refl
+
+abbrev entries_read : List Entry → List (List ℕ) → Result (List Entry × List (List ℕ)) JournalFault
+entries_read entries lines = Ok (entries, lines)
+
+pub entries_again : (players : ℕ) (es sofar : List Entry) (rest : List ℕ) → players ≤ 1000 → length (sofar ++ es) ≤ 8000000 → AllByRecursion (IsEntryOf players) es
+    → entries_in players sofar (lines_of (flat_map entry_line es ++ (line (codes "end" ∷ []) ++ rest))) ≡ Ok (sofar ++ es, lines_of rest)
+unfolding entry_line
+entries_again players [] sofar rest few most each =
+    entries_step players sofar (lines_of (line (codes "end" ∷ []) ++ rest))
+    ∙ rw (next-line (codes "end" ∷ []) rest end_is_words, append-nil sofar) refl
+entries_again players (e ∷ es) sofar rest few most each =
+    let tail = flat_map entry_line es ++ (line (codes "end" ∷ []) ++ rest) in
+    let words = entry_is_words players e few each.0 in
+    let room : length sofar < 8000000 = omega (arith, most, length-append sofar (e ∷ es)) in
+    let same = append_assoc sofar (e ∷ []) es in
+    let stepped : entries_in players sofar (lines_of (entry_line e ++ tail)) ≡ entries_in players (sofar ++ e ∷ []) (lines_of tail) =
+    entries_step players sofar (lines_of (entry_line e ++ tail))
+    ∙ rw (
+      next-line (entry_words e) tail words,
+      not_end e.stamp _ (omega (arith, each.0.stamp_most)),
+      words_of-spaced (decimal e.stamp) _ words,
+      entry_again players e few each.0,
+      lt-ltb (length sofar) 8000000 room,
+    ) refl in
+    ap (λ (text : List ℕ). entries_in players sofar (lines_of text)) (append_assoc (entry_line e) (flat_map entry_line es) (line (codes "end" ∷ []) ++ rest))
+    ∙ stepped
+    ∙ entries_again players es (sofar ++ e ∷ []) rest few (subst (λ (xs : List Entry). length xs ≤ 8000000) (sym same) most) each.1
+    ∙ ap (λ (xs : List Entry). entries_read xs (lines_of rest)) same
+
+-- ---- what is read was written so
+
+-- entries as a journal of so many players may have them
+pub record AreEntries (players : ℕ) (entries : List Entry) : Type 0 where
+  pub most : length entries ≤ 8000000
+  pub good : All (IsEntryOf players) entries
+
+pub no_entries : (players : ℕ) → AreEntries players []
+no_entries players = record { most = omega arith; good = All-nil (IsEntryOf players) }
+
+-- these entries were read behind those that were read before, and they have this text
+pub record TakesEntries (text : List ℕ) (players : ℕ) (sofar : List Entry) (r : List Entry × List (List ℕ)) : Type 0 where
+  pub new : List Entry
+  pub all : r.0 ≡ sofar ++ new
+  pub spelled : text ≡ flat_map entry_line new ++ (line (codes "end" ∷ []) ++ joined r.1)
+  pub good : AreEntries players r.0
+
+entries_ended : (bytes : List ℕ) (behind : List (List ℕ)) (players : ℕ) (sofar : List Entry) → AreEntries players sofar → bytes ≡ codes "end" → TakesEntries (bytes ++ (10 ∷ joined behind)) players sofar (sofar, behind)
+entries_ended bytes behind players sofar h same = record {
+  new = [];
+  all = sym (append-nil sofar);
+  spelled = ap (λ (b : List ℕ). b ++ (10 ∷ joined behind)) same;
+  good = h;
+}
+
+entries_more : (bytes : List ℕ) (behind : List (List ℕ)) (players : ℕ) (sofar : List Entry) (e : Entry) (r : List Entry × List (List ℕ)) → bytes ≡ spaced (entry_words e) → TakesEntries (joined behind) players (sofar ++ e ∷ []) r → TakesEntries (bytes ++ (10 ∷ joined behind)) players sofar r
+unfolding entry_line
+entries_more bytes behind players sofar e r same rest = record {
+  new = e ∷ rest.new;
+  all = rest.all ∙ append_assoc sofar (e ∷ []) rest.new;
+  spelled = ap (λ (b : List ℕ). b ++ (10 ∷ joined behind)) same ∙ sym (append_assoc (spaced (entry_words e)) (10 ∷ []) (joined behind)) ∙ ap (λ (text : List ℕ). line (entry_words e) ++ text) rest.spelled ∙ sym (append_assoc (line (entry_words e)) (flat_map entry_line rest.new) (line (codes "end" ∷ []) ++ joined r.1));
+  good = rest.good;
+}
+
+guard_follows : (b : Bool) → cond b passed (Err Form) ≡ passed → b ≡ true
+guard_follows true e = refl
+guard_follows false e = absurd cc
+
+one_more_entry : (players : ℕ) (entries : List Entry) (e : Entry) → AreEntries players entries → IsEntryOf players e → follows (length entries) ≡ Ok tt → AreEntries players (entries ++ e ∷ [])
+one_more_entry players entries e h good room =
+    let below : length entries < 8000000 = ltb-true (length entries) 8000000 (guard_follows (ltb (length entries) 8000000) room) in
+    record { most = omega (arith, length_push entries e); good = All-push (IsEntryOf players) entries e h.good good }
+
+pub entries_take : (players : ℕ) (lines : List (List ℕ)) (sofar : List Entry) (r : List Entry × List (List ℕ)) → AreEntries players sofar → entries_in players sofar lines ≡ Ok r → TakesEntries (joined lines) players sofar r
+unfolding entries_in
+entries_take players [] sofar r h e = absurd cc
+entries_take players (rest ∷ []) sofar r h e = absurd cc
+entries_take players (bytes ∷ after ∷ more) sofar r h e =
+    elim (cases_Bool (bytes_eq bytes (codes "end"))) [
+      | inl end ↦
+          subst (TakesEntries (joined (bytes ∷ after ∷ more)) players sofar) (text_ok_is (sofar, after ∷ more) r (rw end at e)) (entries_ended bytes (after ∷ more) players sofar h ((bytes_eq-Decides bytes (codes "end")).0 end))
+      | inr other ↦
+          let x = bind_ok (at_line (entry_in players (words_of bytes))) (λ x. at_line (follows (length sofar)) >> entries_in players (sofar ++ x ∷ []) (after ∷ more)) r (rw other at e) in
+          let t = then_ok (follows (length sofar)) (entries_in players (sofar ++ x.0 ∷ []) (after ∷ more)) r x.2 in
+          let said = entry_takes players (words_of bytes) x.0 (at_line_ok (entry_in players (words_of bytes)) x.0 x.1) in
+          entries_more bytes (after ∷ more) players sofar x.0 r (spelled_words bytes (entry_words x.0) said.0) (entries_take players (after ∷ more) (sofar ++ x.0 ∷ []) r (one_more_entry players sofar x.0 h said.1 t.0) t.1)
+    ]

@@ -1,0 +1,12 @@
+pub mod Fails
+pub mod LineLemmas
+pub mod WordLemmas
+pub mod FormLemmas
+pub mod Steps
+pub mod ReadLines
+pub mod HeadLines
+pub mod PlayerLines
+pub mod EntryLines
+pub mod WholeText
+pub mod Built
+pub mod TextLemmas

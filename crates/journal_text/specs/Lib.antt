@@ -1,0 +1,5 @@
+pub mod Lines
+pub mod Text
+pub mod Refusals
+pub mod Forms
+pub mod Reading

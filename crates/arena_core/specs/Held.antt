@@ -10,6 +10,10 @@ pub record Held : Type 0 where
   pub entries : List Entry
   pub spare : ℕ
 
+-- these as one value
+abbrev pub held : Setup → List Entry → ℕ → Held
+held setup entries spare = record { setup = setup; entries = entries; spare = spare }
+
 -- the history of an arena's journal
 abbrev pub past : Held → History
 past a = history a.setup a.entries

@@ -18,8 +18,8 @@ use std::marker::Model;
 /// The greatest stamp.
 const MAX_STAMP: u64 = 1_000_000_000;
 
-/// One arena. Contracts see its setup, its journal and how many entries more the journal has room for. The setup of every
-/// arena is good, and its journal is legal.
+/// One arena. Contracts see its setup, its journal and how many entries more the journal has room for. Every arena has a
+/// good setup and a legal journal.
 #[derive(Drop)]
 pub struct Arena {
     setup: Setup,
@@ -28,21 +28,21 @@ pub struct Arena {
 }
 
 impl Model for Arena {
-    ghost use Rattle.arena_core.specs.Held.{Held};
+    ghost use Rattle.arena_core.specs.Held.{Held, held};
 
     ghost Value = { Held };
 
     ghost use Rattle.std.specs.Prelude.{◌-◌, vec_len, vec_capacity};
     ghost use Rattle.arena_core.specs.Kept.{IsKept};
 
-    ghost view = { λ a. record { setup = a.setup; entries = a.entries.items; spare = vec_capacity a.entries - vec_len a.entries } };
+    ghost view = { λ a. held a.setup a.entries.items (vec_capacity a.entries - vec_len a.entries) };
 
     ghost invariant = { λ a. IsKept a.setup a.entries.items a.roster };
 }
 
 impl Arena {
-    /// An arena with this setup and an empty journal. It takes the room of all that is kept per player, and fails only for want
-    /// of memory.
+    /// An arena with this setup and an empty journal. All that grows with the number of players is taken here. It fails only
+    /// for want of memory.
     pub fn new(alloc: Global, setup: Setup) -> Result<Arena, AllocError>
         requires { IsGood setup }
         ensures setup { IfOk result (λ arena. arena.setup ≡ setup) }
@@ -56,10 +56,12 @@ impl Arena {
         })
     }
 
-    /// Adds the one entry of a command that a pass makes at `now` milliseconds of the clock. The entry's stamp is `now`, raised
-    /// to the last stamp and cut to 1,000,000,000. `Refused` comes exactly where the command is refused at that stamp, with
-    /// its first refusal: the arena is closed, then what the player's wish refuses, then the journal is full. `OutOfMemory`
-    /// comes only where the command is not refused and the journal has no room left. Both leave all as it was.
+    /// Adds the one entry of a command that pass `pass` makes at `now`, a moment of the clock in milliseconds; both may be any
+    /// number. The entry's stamp is `now`, raised to the last stamp and cut to 1,000,000,000.
+    ///
+    /// `Refused` has the command's first refusal at that stamp: that the arena is closed, then what the player's wish refuses,
+    /// then that the journal is full. `OutOfMemory` comes where the command is not refused and there is no memory for its
+    /// entry, never where the journal has room for one. Both leave all as it was.
     pub fn apply(&mut self, pass: u32, now: u64, c: Command) -> Result<(), ApplyFault>
         requires { IsCommandOf (length self.old.setup.players) c }
         ensures setup { self.new.setup ≡ self.old.setup }
@@ -114,7 +116,7 @@ impl Arena {
     /// The players who entered, in the order of the table: by rating, the higher first, and then by first enter entry. It fails
     /// only for want of memory.
     pub fn order(&self, alloc: Global) -> Result<Vec<u32>, AllocError>
-        ensures { IfOk result (λ players. players.items ≡ table_order self.now.setup (past self.now)) }
+        ensures { IfOk result (λ list. list.items ≡ table_order self.now.setup (past self.now)) }
     {
         in_table_order(alloc, &self.setup, self.roster.entered())
     }

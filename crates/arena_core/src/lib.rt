@@ -1,6 +1,6 @@
 //! An arena: its setup and its journal, which is legal at all times. The layers above see of it the record of
-//! `specs/Held.antt`, and rely on `apply`, which adds exactly the entry of a command that is not refused, or answers exactly
-//! the refusal that the definitions of `history` give.
+//! `specs/Held.antt`. They rely on `apply`, which adds exactly the entry of a command that is not refused and otherwise
+//! answers exactly the refusal that the definitions of `history` give.
 #![tactic(auto)]
 
 mod arena;
@@ -11,6 +11,7 @@ mod table;
 
 pub use arena::Arena;
 pub use fault::ApplyFault;
+pub use history::{Command, Refusal};
 
 #[cfg(test)]
 mod tests;

@@ -24,7 +24,7 @@ impl Model for Roster {
 
     ghost view = { λ r. record { wishes = r.wishes.items; entered = r.entered.items } };
 
-    // Each player who has asked for nothing has a place left in the list of those who entered.
+    // In the list of those who entered, a place is left for each player who has asked for nothing.
     ghost invariant = { λ r. vec_len r.entered + count_by is_absent r.wishes.items ≤ vec_capacity r.entered };
 }
 

@@ -1,6 +1,6 @@
 -- The wishes of players, where one entry comes more, and of players who left.
 use Rattle.std.proofs.Common.{◌≡◌, ℕ, suc, ◌<◌, ⊎_elim, List, [], ◌∷◌, ◌++◌, take, drop, Option, Some, None, Bool, true, false, ◌||◌, refl, sym, ap, ◌∙◌, subst, arith, append_assoc}
-use Rattle.std.specs.Prelude.{cond, slice_get, nat_le, ◌==◌, ◌≢◌, IsSome}
+use Rattle.std.specs.Prelude.{cond, slice_get, nat_le, ◌==◌, ◌≢◌}
 use Rattle.std.specs.List.{list_any}
 use Rattle.std.proofs.lemmas.List.Folds.{list_any-append}
 use Rattle.std.proofs.lemmas.Bool.{eq-eqb, eqb-true, cases_Bool}
@@ -10,13 +10,14 @@ use Rattle.entries.specs.declared.journal.Entry.{Entry}
 use Rattle.entries.specs.declared.journal.What.{What}
 use Rattle.entries.specs.declared.journal.What.TheVariants as what
 use Rattle.history.specs.declared.command.Command.TheVariants.{Enter, Leave}
+use Rattle.history.specs.declared.refusal.Refusal.{Refusal}
 use Rattle.history.specs.declared.refusal.Refusal.TheVariants as refusal
 use Rattle.history.specs.declared.wish.Wish.{Wish}
 use Rattle.history.specs.declared.wish.Wish.TheVariants.{Absent, In, Left}
 use Rattle.history.specs.History.{History, after, history, along}
 use Rattle.history.specs.Commands.{is_enter_of, is_leave_of}
 use Rattle.history.specs.Wishes.{wish_set, wish_in, wish_step, wish, has_entered, has_left}
-use Rattle.history.specs.Legal.{or_full, verdict, AllowsWhat, IsLegal}
+use Rattle.history.specs.Legal.{closed_or, or_full, verdict, AllowsWhat, IsLegal}
 use Rattle.history.proofs.Histories.{IsWhole, IsWhole-history, history-push, entries-history}
 use Rattle.history.proofs.Lists.{take-suc_at, snoc_induction}
 use Rattle.history.proofs.Walks.{along-after}
@@ -51,21 +52,24 @@ left_stays s es (e ∷ more) p left =
 
 -- and is refused
 
-refused_in : (es : List Entry) (closed : Bool) → IsSome (or_full es (cond closed (Some refusal.Closed) (Some refusal.Left)))
+refused_in : (es : List Entry) (closed : Bool) → or_full es (cond closed (Some refusal.Closed) (Some refusal.Left)) ≡ cond closed (Some refusal.Closed) (Some refusal.Left)
 refused_in es true = refl
 refused_in es false = refl
 
-pub left_enter_refused : (s : Setup) (h : History) (t p : ℕ) → wish s h p ≡ Left → IsSome (verdict s h t (Enter p))
+pub left_enter_refused : (s : Setup) (h : History) (t p : ℕ) → wish s h p ≡ Left → verdict s h t (Enter p) ≡ closed_or s t (Some refusal.Left)
 unfolding verdict
 left_enter_refused s h t p left = rw left (refused_in h.entries (nat_le s.ends t))
 
-pub left_leave_refused : (s : Setup) (h : History) (t p : ℕ) → wish s h p ≡ Left → IsSome (verdict s h t (Leave p))
+pub left_leave_refused : (s : Setup) (h : History) (t p : ℕ) → wish s h p ≡ Left → verdict s h t (Leave p) ≡ closed_or s t (Some refusal.Left)
 unfolding verdict
 left_leave_refused s h t p left = rw left (refused_in h.entries (nat_le s.ends t))
 
-some_none : {A : Type 0} (o : Option A) → IsSome o → o ≡ None → ⊥
-some_none (Some x) is none = cc
-some_none None is none = cc
+closed_not_none : (s : Setup) (t : ℕ) (v : Option Refusal) → v ≡ closed_or s t (Some refusal.Left) → v ≡ None → ⊥
+closed_not_none s t v is none = some_not_none (nat_le s.ends t) (sym is ∙ none)
+  where
+    some_not_none : (closed : Bool) → cond closed (Some refusal.Closed) (Some refusal.Left) ≡ None → ⊥
+    some_not_none true is = cc
+    some_not_none false is = cc
 
 -- a command that is not refused sets its player's wish, and nobody else's
 
@@ -82,10 +86,10 @@ set_own p q w old stays =
     (cases_Bool (p == q))
 
 pub wish_in-enter : (s : Setup) (h : History) (t p q : ℕ) → verdict s h t (Enter p) ≡ None → wish_in q (what.Enter p) (wish s h q) ≡ cond (p == q) In (wish s h q)
-wish_in-enter s h t p q may = set_own p q In (wish s h) (λ left. some_none _ (left_enter_refused s h t p left) may)
+wish_in-enter s h t p q may = set_own p q In (wish s h) (λ left. closed_not_none s t _ (left_enter_refused s h t p left) may)
 
 pub wish_in-leave : (s : Setup) (h : History) (t p q : ℕ) → verdict s h t (Leave p) ≡ None → wish_in q (what.Leave p) (wish s h q) ≡ cond (p == q) Left (wish s h q)
-wish_in-leave s h t p q may = set_own p q Left (wish s h) (λ left. some_none _ (left_leave_refused s h t p left) may)
+wish_in-leave s h t p q may = set_own p q Left (wish s h) (λ left. closed_not_none s t _ (left_leave_refused s h t p left) may)
 
 -- whoever left does not come back
 
@@ -107,8 +111,8 @@ nobody_comes_back s es i j p e f legal lt at behind leave =
     let h = history s (take j es) in
     let left : wish s h p ≡ Left = left_behind s es i j p e lt at leave in
     let allowed : AllowsWhat s h f.stamp f.what = (legal.each j f behind).granted in (
-      (λ is. some_none _ (left_enter_refused s h f.stamp p left) (let granted : AllowsWhat s h f.stamp (what.Enter p) = subst (AllowsWhat s h f.stamp) is allowed in granted.1)),
-      (λ is. some_none _ (left_leave_refused s h f.stamp p left) (let granted : AllowsWhat s h f.stamp (what.Leave p) = subst (AllowsWhat s h f.stamp) is allowed in granted.1)),
+      (λ is. closed_not_none s f.stamp _ (left_enter_refused s h f.stamp p left) (let granted : AllowsWhat s h f.stamp (what.Enter p) = subst (AllowsWhat s h f.stamp) is allowed in granted.1)),
+      (λ is. closed_not_none s f.stamp _ (left_leave_refused s h f.stamp p left) (let granted : AllowsWhat s h f.stamp (what.Leave p) = subst (AllowsWhat s h f.stamp) is allowed in granted.1)),
     )
 
 -- a player's wish by his entries

@@ -1,5 +1,5 @@
 -- Laws of the definitions, for every setup and every list of entries.
-use Rattle.std.specs.Prelude.{◌≡◌, ◌≢◌, ℕ, ◌<◌, ◌≤◌, ◌↔◌, List, [], ◌∷◌, ◌++◌, take, length, slice_get, Some, None, IsSome, IsTrue, if◌then◌else◌}
+use Rattle.std.specs.Prelude.{◌≡◌, ◌≢◌, ℕ, ◌<◌, ◌≤◌, ◌↔◌, List, [], ◌∷◌, ◌++◌, take, length, slice_get, Some, None, IsTrue, if◌then◌else◌}
 use Rattle.std.specs.List.{All, AllPairs, Contains}
 use Rattle.std.specs.List.Sorted.{IsNonDecreasingBy}
 use Rattle.entries.specs.declared.setup.Setup.{Setup}
@@ -8,10 +8,11 @@ use Rattle.entries.specs.declared.journal.What.TheVariants as what
 use Rattle.entries.specs.Ranges.{IsEntryOf}
 use Rattle.history.specs.declared.command.Command.{Command}
 use Rattle.history.specs.declared.command.Command.TheVariants.{Enter, Leave}
+use Rattle.history.specs.declared.refusal.Refusal.TheVariants as refusal
 use Rattle.history.specs.declared.wish.Wish.TheVariants.{Absent, In, Left}
 use Rattle.history.specs.Commands.{IsCommandOf, entry_of}
 use Rattle.history.specs.History.{History, history, first}
-use Rattle.history.specs.Legal.{last_stamp, stamp_of, verdict, Allowed, IsLegal}
+use Rattle.history.specs.Legal.{last_stamp, stamp_of, closed_or, verdict, Allowed, IsLegal}
 use Rattle.history.specs.Table.{table_order, Precedes}
 use Rattle.history.specs.Wishes.{wish, has_entered, has_left}
 
@@ -66,13 +67,13 @@ AllowedIfNotRefused = (s : Setup) (es : List Entry) (t pass : ℕ) (c : Command)
     → IsCommandOf (length s.players) c
     → Allowed s (history s es) (entry_of t pass c) ↔ (verdict s (history s es) (stamp_of (history s es) t) c ≡ None)
 
--- whoever left stays so, and is refused whenever he enters or leaves, whatever comes after
+-- whoever left stays so, whatever comes after, and is refused as such whenever he enters or leaves while the arena is open
 abbrev pub LeftIsRefused : Type 0
 LeftIsRefused = (s : Setup) (es more : List Entry) (p t : ℕ)
     → wish s (history s es) p ≡ Left
     → (wish s (history s (es ++ more)) p ≡ Left)
-    × IsSome (verdict s (history s (es ++ more)) t (Enter p))
-    × IsSome (verdict s (history s (es ++ more)) t (Leave p))
+    × (verdict s (history s (es ++ more)) t (Enter p) ≡ closed_or s t (Some refusal.Left))
+    × (verdict s (history s (es ++ more)) t (Leave p) ≡ closed_or s t (Some refusal.Left))
 
 -- in a legal list a player has no enter and no leave entry behind a leave entry
 abbrev pub NobodyComesBack : Type 0

@@ -14,7 +14,7 @@ use Rattle.history.specs.Commands.{IsCommandOf}
 use Rattle.history.specs.History.{History, history}
 use Rattle.history.specs.Wishes.{wish}
 
--- the stamp of the last entry, or 0 where there is none
+-- when the last entry was made: its stamp, or 0 where there is none
 abbrev pub last_stamp : List Entry → ℕ
 last_stamp es = fold (λ t (e : Entry). e.stamp) 0 es
 

@@ -31,7 +31,7 @@ rating_of s p = option_map_or (λ (x : Player). x.rating) (slice_get s.players p
 abbrev pub rated_above : Setup → ℕ → ℕ → Bool
 rated_above s p q = nat_lt (rating_of s q) (rating_of s p)
 
--- p stands above q whenever they entered: he is rated higher
+-- p stands above q, no matter who entered first: he is rated higher
 abbrev pub outranks : Setup → History → ℕ → ℕ → Bool
 outranks s h p q = rated_above s p q
 

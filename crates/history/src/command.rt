@@ -1,4 +1,4 @@
-/// What a player may ask of an arena. A number names a player by his place in the setup.
+/// What a player may ask of an arena. A number names a player by his place in the setup, from 0.
 #[derive(Debug, Clone, Copy, PartialEq, Eq)]
 pub enum Command {
     /// The player enters.

@@ -1,4 +1,10 @@
-ghost use Rattle.history.specs.Laws.{HasItsEntries, BeginningsAreHistories, NothingIsLegal, OneMoreIsLegal, BeginningsAreLegal, StampsDoNotFall, LegalLength, LegalRanges, StampsStay, AllowedIfNotRefused, LeftIsRefused, NobodyComesBack, WishesByEntries, EnteredHaveAsked, TableHasEntered, TableIsOrdered, TableHasPlayers};
+ghost use Rattle.history.specs.Laws.{HasItsEntries, BeginningsAreHistories};
+ghost use Rattle.history.specs.Laws.{NothingIsLegal, OneMoreIsLegal, BeginningsAreLegal};
+ghost use Rattle.history.specs.Laws.{StampsDoNotFall, LegalLength, LegalRanges};
+ghost use Rattle.history.specs.Laws.{StampsStay, AllowedIfNotRefused};
+ghost use Rattle.history.specs.Laws.{LeftIsRefused, NobodyComesBack};
+ghost use Rattle.history.specs.Laws.{WishesByEntries, EnteredHaveAsked};
+ghost use Rattle.history.specs.Laws.{TableHasEntered, TableIsOrdered, TableHasPlayers};
 
 /// A history has the entries of its list, and its first entries are the history of the list's first entries.
 pub fn beginnings_are_histories()

@@ -12,7 +12,7 @@ pub enum JournalCause {
     /// A line of the text begins as one of a kind that is not built yet: a team, or an entry of another kind than
     /// `enter` and `leave`.
     NotBuilt,
-    /// No such line, and the text is not that of a journal.
+    /// There is no such line, and the text is that of no journal.
     Form,
 }
 
@@ -29,6 +29,7 @@ pub struct JournalFault {
 pub enum ReadJournalFault {
     /// The text is that of no journal.
     Bad(JournalFault),
+    /// There was no room for the players or the entries. It says nothing of the text.
     OutOfMemory,
 }
 

@@ -14,13 +14,17 @@ use conn::List;
 use entries::{Journal, Setup};
 use std::alloc::Global;
 
-/// The journal that the bytes spell.
+/// The journal whose text the bytes are: a good setup without teams, and entries in range of players who enter and
+/// leave. `Bad` comes exactly where they are the text of no such journal, unless memory runs out first. It names
+/// `NotBuilt` exactly where some line of the text, an unfinished last one too, begins as one of a kind that is not built
+/// yet: `team `, or two canonical decimals and `pause`, `act`, `tick` or `wave`. Takes memory for the journal alone.
 pub fn read_journal(alloc: Global, bytes: &[u8]) -> Result<Journal, ReadJournalFault>
     // What is read has this text, byte for byte.
     ensures read { IfOk result (λ j. Spells bytes.now j × HasNoTeams j) }
 
     // What has this text is read, unless memory runs out.
-    ensures only { (j : Journal) → Spells bytes.now j → HasNoTeams j → MatchResult result (λ read. read ≡ j) (λ fault. fault ≡ ReadJournalFault.OutOfMemory) }
+    ensures only { (j : Journal) → Spells bytes.now j → HasNoTeams j
+        → MatchResult result (λ read. read ≡ j) (λ fault. fault ≡ ReadJournalFault.OutOfMemory) }
 
     // What is refused is the text of no journal without teams, and its cause says whether a line is of a kind that is
     // not built. A text with such a line is never read.

@@ -60,6 +60,7 @@ fn an_evening_is_read(rt: HostRuntime) -> Result<(), Fail> {
         },
     ];
     assert_eq!(rt; journal.entries.items(), entries.as_slice());
+    one_journal();
     Ok(())
 }
 

@@ -1,0 +1,5 @@
+pub mod Fates
+pub mod Replayed
+pub mod Replays
+pub mod Runs
+pub mod Table

@@ -1,0 +1,16 @@
+pub mod Array
+pub mod BoardTexts
+pub mod Cuts
+pub mod Decimals
+pub mod Ends
+pub mod Equal
+pub mod FieldTexts
+pub mod Fields
+pub mod Lines
+pub mod OneText
+pub mod RankTexts
+pub mod Ranks
+pub mod Spelling
+pub mod Splits
+pub mod Squares
+pub mod Stages

@@ -1,0 +1,11 @@
+pub mod Square
+pub mod Piece
+pub mod Moves
+pub mod Attack
+pub mod Start
+pub mod Position
+pub mod Same
+pub mod Words
+pub mod Fen
+pub mod FenFaults
+pub mod Reading

@@ -1,0 +1,10 @@
+mod board;
+mod cut;
+mod fault;
+mod read;
+mod values;
+mod write;
+
+pub use fault::FenFault;
+pub use read::read_fen;
+pub use write::write_fen;

@@ -1,0 +1,30 @@
+//! The board of chess: squares, pieces, moves as they are named, and positions. It says which squares a side attacks, and
+//! reads and writes positions as FEN and moves as words.
+//!
+//! again. `Parts::attacked` is the definition of `specs/Attack.antt`, for any board. Each position and each move has exactly
+//! one text, and reading answers exactly the value that has the text, or the first field that is at fault.
+#![tactic(auto)]
+
+mod attack;
+mod fen;
+mod moves;
+mod parts;
+mod piece;
+mod position;
+mod same;
+mod sound;
+mod square;
+mod start;
+#[cfg(test)]
+mod tests;
+mod words;
+
+pub use attack::{is_pawn_strike, piece_strikes};
+pub use fen::{FenFault, read_fen, write_fen};
+pub use moves::Move;
+pub use parts::{Parts, Rights};
+pub use piece::{Colour, Kind, Piece, is_piece};
+pub use position::{Position, without_ep};
+pub use same::same_cells;
+pub use square::Square;
+pub use words::{read_move, write_move};

@@ -1,0 +1,63 @@
+ghost use Rattle.std.specs.Prelude.{◌≡◌, ◌↔◌, length, IsTrue};
+ghost use Rattle.board.specs.Square.{SomeSquare};
+ghost use Rattle.board.specs.Piece.{other, is_piece};
+ghost use Rattle.board.specs.Attack.{piece_on, strikes_from, attacked, king_attacked};
+
+use crate::attack;
+use crate::piece::{Colour, Kind, Piece};
+use crate::square::Square;
+
+/// The castlings that are left: king and rook have not moved, and the rook was not taken.
+#[derive(Clone, Copy, Debug, PartialEq, Eq)]
+pub struct Rights {
+    pub white_short: bool,
+    pub white_long: bool,
+    pub black_short: bool,
+    pub black_long: bool,
+}
+
+/// A board with all that belongs to a position. It need not be one that a game can have: `Position` keeps that.
+#[derive(Clone, Copy, Debug, PartialEq, Eq)]
+pub struct Parts {
+    /// What stands on each square, by the square's number.
+    pub cells: [Option<Piece>; 64],
+    /// Who is to move.
+    pub turn: Colour,
+    pub rights: Rights,
+    /// The square that a pawn has just crossed by its double step.
+    pub ep: Option<Square>,
+    /// How many plies have passed without a pawn move or a capture.
+    pub half: u16,
+    /// The number of the move, which is 1 at the start and rises after each move of Black.
+    pub number: u16,
+}
+
+impl Parts {
+    /// The piece on a square, or None where it is empty.
+    pub fn at(&self, s: Square) -> Option<Piece>
+        ensures { result ≡ piece_on self.now.cells s }
+    {
+        self.cells[s.0 as usize]
+    }
+
+    /// Whether a piece of this colour strikes the square, whatever stands there.
+    pub fn attacked(&self, s: Square, by: Colour) -> bool
+        ensures is { result ≡ attacked self.now.cells s by }
+        ensures means { IsTrue result ↔ SomeSquare (λ a. IsTrue (strikes_from self.now.cells by s a)) }
+    {
+        attack::is_attacked(&self.cells, s, by)
+    }
+
+    /// Whether a king of this colour stands on a square that the other side attacks.
+    pub fn is_king_attacked(&self, colour: Colour) -> bool
+        ensures is { result ≡ king_attacked self.now.cells colour }
+        ensures means { IsTrue result ↔ SomeSquare (λ s. IsTrue (is_piece colour Kind.King (piece_on self.now.cells s)) × IsTrue (attacked self.now.cells s (other colour))) }
+    {
+        attack::is_king_attacked(&self.cells, colour)
+    }
+
+    /// Says to a caller that a board has 64 cells, and does nothing.
+    pub fn keeps(&self)
+        ensures { length self.now.cells ≡ 64 }
+    {}
+}

@@ -1,0 +1,44 @@
+ghost use Rattle.std.specs.Prelude.{◌≡◌, ◌↔◌, IsTrue};
+ghost use Rattle.board.specs.Same.{same_board, same_rights, same_ep, same, IsSame};
+
+use crate::parts::{Parts, Rights};
+use crate::piece::Piece;
+use crate::position::Position;
+use crate::square::Square;
+
+fn have_same_board(a: &[Option<Piece>; 64], b: &[Option<Piece>; 64]) -> bool
+    ensures { result ≡ same_board a.now b.now }
+{
+    a == b
+}
+
+fn are_same_rights(a: Rights, b: Rights) -> bool
+    ensures { result ≡ same_rights a b }
+{
+    a == b
+}
+
+fn are_same_ep(a: Option<Square>, b: Option<Square>) -> bool
+    ensures { result ≡ same_ep a b }
+{
+    a == b
+}
+
+#[tactic(auto, unfolding(crate::specs::Same::same))]
+fn are_same(a: &Parts, b: &Parts) -> bool
+    ensures { result ≡ same a.now b.now }
+{
+    have_same_board(&a.cells, &b.cells)
+        && a.turn == b.turn
+        && are_same_rights(a.rights, b.rights)
+        && are_same_ep(a.ep, b.ep)
+}
+
+/// Whether two positions are the same: the same pieces on the same squares, the same side to move, and the same castlings
+/// and en passant square left. The counts do not matter. Repetition asks this of canonical positions.
+pub fn same_cells(a: &Position, b: &Position) -> bool
+    ensures is { result ≡ same a.now b.now }
+    ensures means { IsTrue result ↔ IsSame a.now b.now }
+{
+    are_same(a.as_parts(), b.as_parts())
+}

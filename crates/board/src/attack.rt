@@ -25,7 +25,7 @@ fn is_knight_step(a: Square, b: Square) -> bool
     across == 1 && up == 2 || across == 2 && up == 1
 }
 
-/// Whether a pawn of this colour on `a` strikes `b`: one step diagonally forward.
+/// Whether a pawn of this colour on `a` strikes `b`: one step diagonally forward (FIDE Laws of Chess, Article 3.7).
 pub fn is_pawn_strike(colour: Colour, a: Square, b: Square) -> bool
     ensures { result ≡ pawn_strike colour a b }
 {
@@ -76,7 +76,9 @@ fn is_way_clear(cells: &[Option<Piece>; 64], a: Square, b: Square) -> bool
     (1..steps).all(|i| is_empty(cells, square_between(a, b, i)))
 }
 
-/// Whether a piece, put on the square `a`, strikes the square `b` there.
+/// Whether a piece, put on the square `a`, strikes the square `b` there, as it moves by the FIDE Laws of Chess, Articles 3.2
+/// to 3.8: bishop, rook and queen along lines and over no piece, knight and king by a step, a pawn diagonally forward. What
+/// stands on `b` does not matter.
 #[tactic(auto, unfolding(crate::specs::Attack::strikes_as))]
 pub fn piece_strikes(cells: &[Option<Piece>; 64], piece: Piece, a: Square, b: Square) -> bool
     ensures { result ≡ strikes_as cells.now piece.kind piece.colour a b }

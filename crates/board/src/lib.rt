@@ -1,8 +1,9 @@
 //! The board of chess: squares, pieces, moves as they are named, and positions. It says which squares a side attacks, and
 //! reads and writes positions as FEN and moves as words.
 //!
+//! The layers above rely on three things. A `Position` keeps what `specs/Position.antt` lists, so that nobody asks for it
 //! again. `Parts::attacked` is the definition of `specs/Attack.antt`, for any board. Each position and each move has exactly
-//! one text, and reading answers exactly the value that has the text, or the first field that is at fault.
+//! one text; reading answers exactly the value that has the text, or else None or the first field that is at fault.
 #![tactic(auto)]
 
 mod attack;
@@ -19,7 +20,7 @@ mod start;
 mod tests;
 mod words;
 
-pub use attack::{is_pawn_strike, piece_strikes};
+pub use attack::{is_on_line, is_pawn_strike, piece_strikes, square_between};
 pub use fen::{FenFault, read_fen, write_fen};
 pub use moves::Move;
 pub use parts::{Parts, Rights};

@@ -26,9 +26,9 @@ pub struct Parts {
     pub rights: Rights,
     /// The square that a pawn has just crossed by its double step.
     pub ep: Option<Square>,
-    /// How many plies have passed without a pawn move or a capture.
+    /// How many plies have passed without a pawn move or a capture. It stays at 65,535 once there.
     pub half: u16,
-    /// The number of the move, which is 1 at the start and rises after each move of Black.
+    /// The number of the move, which is 1 at the start and rises after each move of Black. It stays at 65,535 once there.
     pub number: u16,
 }
 
@@ -40,7 +40,8 @@ impl Parts {
         self.cells[s.0 as usize]
     }
 
-    /// Whether a piece of this colour strikes the square, whatever stands there.
+    /// Whether a piece of this colour strikes the square, also one of its own side's. A piece strikes a square even if its
+    /// going there would leave its own king attacked (FIDE Laws of Chess, Article 3.1).
     pub fn attacked(&self, s: Square, by: Colour) -> bool
         ensures is { result ≡ attacked self.now.cells s by }
         ensures means { IsTrue result ↔ SomeSquare (λ a. IsTrue (strikes_from self.now.cells by s a)) }
@@ -48,7 +49,8 @@ impl Parts {
         attack::is_attacked(&self.cells, s, by)
     }
 
-    /// Whether a king of this colour stands on a square that the other side attacks.
+    /// Whether a king of this colour stands on a square that the other side attacks, and so is in check (FIDE Laws of
+    /// Chess, Article 3.9).
     pub fn is_king_attacked(&self, colour: Colour) -> bool
         ensures is { result ≡ king_attacked self.now.cells colour }
         ensures means { IsTrue result ↔ SomeSquare (λ s. IsTrue (is_piece colour Kind.King (piece_on self.now.cells s)) × IsTrue (attacked self.now.cells s (other colour))) }

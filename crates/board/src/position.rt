@@ -40,7 +40,7 @@ impl Position {
         Position { parts }
     }
 
-    /// The usual array, with White to move.
+    /// The usual array, with White to move (FIDE Laws of Chess, Article 2.3).
     pub fn start() -> Position
         ensures { result ≡ start_parts }
     {

@@ -35,7 +35,8 @@ fn are_same(a: &Parts, b: &Parts) -> bool
 }
 
 /// Whether two positions are the same: the same pieces on the same squares, the same side to move, and the same castlings
-/// and en passant square left. The counts do not matter. Repetition asks this of canonical positions.
+/// and en passant square left (FIDE Laws of Chess, Article 9.2, where the square is kept only if a capture there is legal).
+/// The counts do not matter.
 pub fn same_cells(a: &Position, b: &Position) -> bool
     ensures is { result ≡ same a.now b.now }
     ensures means { IsTrue result ↔ IsSame a.now b.now }

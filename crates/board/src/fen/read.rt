@@ -51,8 +51,10 @@ fn parse(bytes: &[u8]) -> Result<Position, FenFault>
     }))
 }
 
-/// The position that a FEN says. Any other text is refused at the first of its six fields that is missing or refused, for
-/// its form or for what the fields so far say, or behind the sixth.
+/// The position that a FEN says (Forsyth-Edwards notation, section 16.1 of the PGN standard). Any other text is refused at
+/// the first of its six fields that is missing or refused, for its form or for what the fields so far say, or behind the
+/// sixth. The en passant square is taken whether or not a capture there is legal, since the standard writes it after every
+/// double step.
 pub fn read_fen(bytes: &[u8]) -> Result<Position, FenFault>
     // The text is the position's, and every position is read from its text.
     ensures spelled { IfOk result (λ p. fen_of p ≡ bytes.now) }

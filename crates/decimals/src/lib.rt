@@ -1,6 +1,6 @@
-//! Canonical decimals, the one form in which the texts of the house write numbers: `0`, or up to ten digits that do not
-//! begin with `0`. The layers above rely on this: a word says at most one number, and a number below 10,000,000,000 is
-//! said by exactly one word, the one that `{n}` prints.
+//! Canonical decimals, the form in which every format here writes its numbers: `0`, or up to ten digits that do not begin
+//! with `0`. The layers above rely on this: a word says at most one number, and a number below 10,000,000,000 is said by
+//! exactly one word, the one that `{n}` prints.
 #![tactic(auto)]
 
 ghost use Rattle.std.specs.Prelude.{◌≡◌, ℕ, ◌≤◌, length, IfSome, IfNone};
@@ -17,6 +17,7 @@ pub fn read(word: &[u8]) -> Option<u64>
     number(word)
 }
 
+/// The number that the word says.
 #[tactic(auto, unfolding(crate::specs::Decimals::number_of))]
 fn number(word: &[u8]) -> Option<u64>
     ensures { result ≡ number_of word.now }

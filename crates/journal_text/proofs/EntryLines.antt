@@ -21,7 +21,7 @@ use Rattle.journal_text.specs.declared.entry_lines.Kind.TheVariants.{Enter, Leav
 use Rattle.journal_text.specs.declared.fault.JournalCause.TheVariants.{Form}
 use Rattle.journal_text.specs.declared.fault.JournalFault.{JournalFault}
 use Rattle.journal_text.specs.Lines.{spaced, line, lines_of, words_of, first, two}
-use Rattle.journal_text.specs.Text.{what_words, entry_line}
+use Rattle.journal_text.specs.Text.{what_words, entry_words, entry_line}
 use Rattle.journal_text.specs.Forms.{kind_of, what_form, entry_form, entry_fits, what_made, entry_made, entry_in}
 use Rattle.journal_text.specs.Reading.{◌>>◌, at_line, follows, entries_in}
 use Rattle.journal_text.proofs.Fails.{bind_some, guard_some, some, some_is, line_ok, judged_ok, judged_again, text_ok_is, bind_ok, at_line_ok, then_ok, passed}
@@ -33,9 +33,7 @@ use Rattle.journal_text.proofs.HeadLines.{number_is_words}
 
 -- ---- an entry
 
-abbrev pub entry_words : Entry → List (List ℕ)
-entry_words e = decimal e.stamp ∷ decimal e.pass ∷ what_words e.what
-
+-- the word of a kind, and a player, are what such an entry has written
 kind_takes : (word : List ℕ) (player : ℕ) (kind : Kind) → kind_of word ≡ Some kind → word ∷ decimal player ∷ [] ≡ what_words (what_made kind player)
 unfolding kind_of
 kind_takes word player kind e =
@@ -46,6 +44,7 @@ kind_takes word player kind e =
           subst (λ (kind : Kind). word ∷ decimal player ∷ [] ≡ what_words (what_made kind player)) (some_is Leave kind g.1) (ap (λ (w : List ℕ). w ∷ decimal player ∷ []) (same_word word (codes "leave") g.0))
     ]
 
+-- what is read of an entry's last words was written so
 what_takes : (words : List (List ℕ)) (did : Kind × ℕ) → what_form words ≡ Some did → words ≡ what_words (what_made did.0 did.1)
 unfolding what_form
 what_takes words did e =
@@ -54,15 +53,18 @@ what_takes words did e =
     let n = bind_some (number_of w.0.1) (λ n. Some (k.0, n)) did k.2 in
     subst (λ (did : Kind × ℕ). words ≡ what_words (what_made did.0 did.1)) (some_is (k.0, n.0) did n.2) (two_is words w.0 w.1 ∙ ap (λ (x : List ℕ). w.0.0 ∷ x ∷ []) (decimal_is w.0.1 n.0 n.1) ∙ kind_takes w.0.0 n.0 k.0 k.1)
 
+-- the four values of an entry that were read
 entry_fields : (a b : Option ℕ) (d : Option (Kind × ℕ)) (e : ℕ × ℕ × Kind × ℕ) → option_and_then (λ s. option_and_then (λ p. option_and_then (λ (did : Kind × ℕ). Some (s, p, did.0, did.1)) d) b) a ≡ Some e → (a ≡ Some e.0) × (b ≡ Some e.1) × (d ≡ Some (e.2, e.3))
 entry_fields None b d e h = absurd cc
 entry_fields (Some s) None d e h = absurd cc
 entry_fields (Some s) (Some p) None e h = absurd cc
 entry_fields (Some s) (Some p) (Some did) e h = subst (λ (e : ℕ × ℕ × Kind × ℕ). (some s ≡ some e.0) × (some p ≡ some e.1) × (some did ≡ some (e.2, e.3))) (some_is (s, p, did.0, did.1) e h) (refl, refl, refl)
 
+-- lines with the same parts are the same
 three_parts : (a b x y : List ℕ) (more others : List (List ℕ)) → a ≡ x → b ≡ y → more ≡ others → a ∷ b ∷ more ≡ x ∷ y ∷ others
 three_parts a b x y more others p q r = cc
 
+-- a line with the form of an entry has just its words
 entry_form_is : (words : List (List ℕ)) (e : ℕ × ℕ × Kind × ℕ) → entry_form words ≡ Some e → words ≡ entry_words (entry_made e)
 unfolding entry_form
 entry_form_is words e h =
@@ -74,10 +76,12 @@ entry_form_is words e h =
     let did : b.0.1 ≡ what_words (what_made e.2 e.3) = what_takes b.0.1 (e.2, e.3) f.2 in
     first_is words a.0 a.1 ∙ ap (λ (more : List (List ℕ)). a.0.0 ∷ more) (first_is a.0.1 b.0 b.1) ∙ three_parts a.0.0 b.0.0 (decimal e.0) (decimal e.1) b.0.1 (what_words (what_made e.2 e.3)) stamp pass did
 
+-- a player below their number is in range for each kind
 what_in_range : (players : ℕ) (kind : Kind) (player : ℕ) → player < players → IsWhatOf players (what_made kind player)
 what_in_range players Enter player below = below
 what_in_range players Leave player below = below
 
+-- the entry that a line says has these words, and is in range
 pub entry_takes : (players : ℕ) (words : List (List ℕ)) (e : Entry) → entry_in players words ≡ Ok e → (words ≡ entry_words e) × IsEntryOf players e
 unfolding entry_in
 entry_takes players words e h =
@@ -86,15 +90,18 @@ entry_takes players words e h =
     let low = and_parts (leb j.0.0 1000000000) (leb j.0.1 255) fit.0 in
     subst (λ (e : Entry). (words ≡ entry_words e) × IsEntryOf players e) j.3 (entry_form_is words j.0 j.1, record { stamp_most = leb-true j.0.0 1000000000 low.0; pass_most = leb-true j.0.1 255 low.1; what = what_in_range players j.0.2 j.0.3 (ltb-true j.0.3 players fit.1) })
 
+-- what an entry did is read again
 kind_again : (did : What) (players : ℕ) → players ≤ 1000 → IsWhatOf players did → (kind : Kind) × (player : ℕ) × (what_form (what_words did) ≡ Some (kind, player)) × (what_made kind player ≡ did) × (player < players)
 unfolding what_form kind_of
 kind_again (what.Enter player) players most h = (Enter, player, rw (number_of-decimal player (omega (arith, h))) refl, refl, h)
 kind_again (what.Leave player) players most h = (Leave, player, rw (number_of-decimal player (omega (arith, h))) refl, refl, h)
 
+-- something stands behind the first words of an entry
 first_what : (word : List ℕ) (did : What) → first (word ∷ what_words did) ≡ Some (word, what_words did)
 first_what word (what.Enter player) = refl
 first_what word (what.Leave player) = refl
 
+-- the words of an entry in range say this entry
 pub entry_again : (players : ℕ) (e : Entry) → players ≤ 1000 → IsEntryOf players e → entry_in players (entry_words e) ≡ Ok e
 unfolding entry_in entry_form
 entry_again players e most h =
@@ -105,13 +112,16 @@ entry_again players e most h =
 
 -- ---- the words of these lines
 
+-- what an entry did is made of words
 what_is_words : (players : ℕ) (did : What) → players ≤ 1000 → IsWhatOf players did → AllByRecursion IsWord (what_words did)
 what_is_words players (what.Enter player) most h = number_is_words (codes "enter") player (tested_word (codes "enter") refl) (omega (arith, h))
 what_is_words players (what.Leave player) most h = number_is_words (codes "leave") player (tested_word (codes "leave") refl) (omega (arith, h))
 
+-- an entry is made of words
 pub entry_is_words : (players : ℕ) (e : Entry) → players ≤ 1000 → IsEntryOf players e → AllByRecursion IsWord (entry_words e)
 entry_is_words players e most h = (IsWord-decimal e.stamp (omega (arith, h.stamp_most)), (IsWord-decimal e.pass (omega (arith, h.pass_most)), what_is_words players e.what most h.what))
 
+-- `end` is a word
 pub end_is_words : AllByRecursion IsWord (codes "end" ∷ [])
 end_is_words = (tested_word (codes "end") refl, tt)
 
@@ -125,6 +135,7 @@ digit_front (digit ∷ digits) some all =
     let range = and_parts (leb 48 digit) (leb digit 57) parts.0 in
     (digit, digits, refl, leb-true digit 57 range.1)
 
+-- a decimal begins with a digit
 pub decimal_front : (n : ℕ) → n < 10 ^ 10 → (digit : ℕ) × (more : List ℕ) × (decimal n ≡ digit ∷ more) × (digit ≤ 57)
 decimal_front n small = digit_front (decimal n) (decimal_nonempty n (omega (arith, small))) (all_digits-decimal n small)
 
@@ -135,9 +146,11 @@ not_end n more small =
     let other : eqb front.0 101 ≡ false = ne_eqb front.0 101 (λ same. omega (arith, front.3)) in
     rw (front.2, other) refl
 
+-- what reading answers for these entries
 abbrev entries_read : List Entry → List (List ℕ) → Result (List Entry × List (List ℕ)) JournalFault
 entries_read entries lines = Ok (entries, lines)
 
+-- entries that were written are read again, behind those that were read before
 pub entries_again : (players : ℕ) (es sofar : List Entry) (rest : List ℕ) → players ≤ 1000 → length (sofar ++ es) ≤ 8000000 → AllByRecursion (IsEntryOf players) es
     → entries_in players sofar (lines_of (flat_map entry_line es ++ (line (codes "end" ∷ []) ++ rest))) ≡ Ok (sofar ++ es, lines_of rest)
 unfolding entry_line
@@ -170,6 +183,7 @@ pub record AreEntries (players : ℕ) (entries : List Entry) : Type 0 where
   pub most : length entries ≤ 8000000
   pub good : All (IsEntryOf players) entries
 
+-- no entries are as they may be
 pub no_entries : (players : ℕ) → AreEntries players []
 no_entries players = record { most = omega arith; good = All-nil (IsEntryOf players) }
 
@@ -180,6 +194,7 @@ pub record TakesEntries (text : List ℕ) (players : ℕ) (sofar : List Entry) (
   pub spelled : text ≡ flat_map entry_line new ++ (line (codes "end" ∷ []) ++ joined r.1)
   pub good : AreEntries players r.0
 
+-- at `end` no entry is new
 entries_ended : (bytes : List ℕ) (behind : List (List ℕ)) (players : ℕ) (sofar : List Entry) → AreEntries players sofar → bytes ≡ codes "end" → TakesEntries (bytes ++ (10 ∷ joined behind)) players sofar (sofar, behind)
 entries_ended bytes behind players sofar h same = record {
   new = [];
@@ -188,6 +203,7 @@ entries_ended bytes behind players sofar h same = record {
   good = h;
 }
 
+-- behind an entry come those that are read behind it
 entries_more : (bytes : List ℕ) (behind : List (List ℕ)) (players : ℕ) (sofar : List Entry) (e : Entry) (r : List Entry × List (List ℕ)) → bytes ≡ spaced (entry_words e) → TakesEntries (joined behind) players (sofar ++ e ∷ []) r → TakesEntries (bytes ++ (10 ∷ joined behind)) players sofar r
 unfolding entry_line
 entries_more bytes behind players sofar e r same rest = record {
@@ -197,15 +213,18 @@ entries_more bytes behind players sofar e r same rest = record {
   good = rest.good;
 }
 
+-- the entry was let pass
 guard_follows : (b : Bool) → cond b passed (Err Form) ≡ passed → b ≡ true
 guard_follows true e = refl
 guard_follows false e = absurd cc
 
+-- an entry in range may follow where there is room
 one_more_entry : (players : ℕ) (entries : List Entry) (e : Entry) → AreEntries players entries → IsEntryOf players e → follows (length entries) ≡ Ok tt → AreEntries players (entries ++ e ∷ [])
 one_more_entry players entries e h good room =
     let below : length entries < 8000000 = ltb-true (length entries) 8000000 (guard_follows (ltb (length entries) 8000000) room) in
     record { most = omega (arith, length_push entries e); good = All-push (IsEntryOf players) entries e h.good good }
 
+-- entries that are read were written so
 pub entries_take : (players : ℕ) (lines : List (List ℕ)) (sofar : List Entry) (r : List Entry × List (List ℕ)) → AreEntries players sofar → entries_in players sofar lines ≡ Ok r → TakesEntries (joined lines) players sofar r
 unfolding entries_in
 entries_take players [] sofar r h e = absurd cc

@@ -24,6 +24,7 @@ use Rattle.journal_text.proofs.ReadLines.{joined, next_takes, line_takes, line_r
 
 -- ---- a line of one number
 
+-- the number that a line says has these words, and is in range
 pub number_takes : (word : List ℕ) (least most : ℕ) (words : List (List ℕ)) (n : ℕ) → number_in word least most words ≡ Ok n → (words ≡ word ∷ decimal n ∷ []) × (least ≤ n) × (n ≤ most)
 unfolding number_in number_form
 number_takes word least most words n e =
@@ -34,6 +35,7 @@ number_takes word least most words n e =
     let words_are : words ≡ word ∷ decimal j.0 ∷ [] = two_is words b.0 b.1 ∙ ap (λ (a : List ℕ). a ∷ b.0.1 ∷ []) (same_word b.0.0 word g.0) ∙ ap (λ (a : List ℕ). word ∷ a ∷ []) (decimal_is b.0.1 j.0 g.1) in
     subst (λ k. (words ≡ word ∷ decimal k ∷ []) × (least ≤ k) × (k ≤ most)) j.3 (words_are, leb-true least j.0 fit.0, leb-true j.0 most fit.1)
 
+-- the words of a number in range say this number
 pub number_again : (word : List ℕ) (least most n : ℕ) → n < 10 ^ 10 → least ≤ n → n ≤ most → number_in word least most (word ∷ decimal n ∷ []) ≡ Ok n
 unfolding number_in number_form
 number_again word least most n small low high =
@@ -41,6 +43,7 @@ number_again word least most n small low high =
 
 -- ---- the time control
 
+-- the words of a time control
 abbrev pub control_words : Control → List (List ℕ)
 control_words c = codes "control" ∷ decimal (c.initial_ms / 1000) ∷ decimal (c.inc_ms / 1000) ∷ decimal c.first_ms ∷ []
 
@@ -63,6 +66,7 @@ control_in_range n fit =
       first_most = leb-true n.2 300000 d.1;
     }
 
+-- a line with the form of a time control has just its words
 control_form_is : (words : List (List ℕ)) (n : ℕ × ℕ × ℕ) → control_form words ≡ Some n → words ≡ control_words (control_made n)
 unfolding control_form
 control_form_is words n e =
@@ -70,6 +74,7 @@ control_form_is words n e =
     let m = three_numbers (number_of w.0.1) (number_of w.0.2) (number_of w.0.3) n w.3 in
     four_is words w.0 w.1 ∙ four_same w.0.0 w.0.1 w.0.2 w.0.3 (codes "control") (decimal (n.0 * 1000 / 1000)) (decimal (n.1 * 1000 / 1000)) (decimal n.2) w.2 (decimal_is w.0.1 n.0 m.0 ∙ ap decimal (omega arith)) (decimal_is w.0.2 n.1 m.1 ∙ ap decimal (omega arith)) (decimal_is w.0.3 n.2 m.2)
 
+-- the time control that a line says has these words, and is in range
 pub control_takes : (words : List (List ℕ)) (c : Control) → control_in words ≡ Ok c → (words ≡ control_words c) × IsControl c
 unfolding control_in
 control_takes words c e =
@@ -81,12 +86,14 @@ control_in_tests : (i n f : ℕ) → i ≤ 10800 → n ≤ 180 → (i ≡ 0 → 
 control_in_tests i n f initial increment some least most =
     and_from _ _ (and_from _ _ (and_from _ _ (le-leb i 10800 initial) (le-leb n 180 increment)) (grind (arith, nat_tests))) (and_from _ _ (le-leb 1000 f least) (le-leb f 300000 most))
 
+-- whole seconds are whole again
 control_again_is : (c : Control) → IsControl c → control_made (c.initial_ms / 1000, c.inc_ms / 1000, c.first_ms) ≡ c
 control_again_is c h =
     let initial : c.initial_ms / 1000 * 1000 ≡ c.initial_ms = omega (arith, h.initial_whole) in
     let increment : c.inc_ms / 1000 * 1000 ≡ c.inc_ms = omega (arith, h.increment_whole) in
     rw (initial, increment) refl
 
+-- the words of a time control in range say this time control
 pub control_again : (c : Control) → IsControl c → control_in (control_words c) ≡ Ok c
 unfolding control_in control_form
 control_again c h =
@@ -99,9 +106,11 @@ control_again c h =
 
 -- ---- the window
 
+-- the words of a window
 abbrev pub window_words : ℕ × ℕ → List (List ℕ)
 window_words n = codes "window" ∷ decimal n.0 ∷ decimal n.1 ∷ []
 
+-- the window that a line says has these words, and is in range
 pub window_takes : (words : List (List ℕ)) (n : ℕ × ℕ) → window_in words ≡ Ok n → (words ≡ window_words n) × (n.0 < n.1) × (n.1 ≤ 900000000)
 unfolding window_in window_form
 window_takes words n e =
@@ -112,6 +121,7 @@ window_takes words n e =
     let words_are : words ≡ window_words j.0 = three_is words w.0 w.1 ∙ three_same w.0.0 w.0.1 w.0.2 (codes "window") (decimal j.0.0) (decimal j.0.1) w.2 (decimal_is w.0.1 j.0.0 m.0) (decimal_is w.0.2 j.0.1 m.1) in
     subst (λ (n : ℕ × ℕ). (words ≡ window_words n) × (n.0 < n.1) × (n.1 ≤ 900000000)) j.3 (words_are, ltb-true j.0.0 j.0.1 fit.0, leb-true j.0.1 900000000 fit.1)
 
+-- the words of a window in range say this window
 pub window_again : (starts ends : ℕ) → starts < ends → ends ≤ 900000000 → window_in (window_words (starts, ends)) ≡ Ok (starts, ends)
 unfolding window_in window_form
 window_again starts ends before most =
@@ -120,23 +130,29 @@ window_again starts ends before most =
 
 -- ---- the words of these lines
 
+-- the version is made of words
 pub version_is_words : AllByRecursion IsWord (codes "arena" ∷ codes "1" ∷ [])
 version_is_words = (tested_word (codes "arena") refl, (tested_word (codes "1") refl, tt))
 
+-- a time control is made of words
 pub control_is_words : (c : Control) → IsControl c → AllByRecursion IsWord (control_words c)
 control_is_words c h = (tested_word (codes "control") refl, (IsWord-decimal (c.initial_ms / 1000) (omega (arith, h.initial_most)), (IsWord-decimal (c.inc_ms / 1000) (omega (arith, h.increment_most)), (IsWord-decimal c.first_ms (omega (arith, h.first_most)), tt))))
 
+-- a word and a number are words
 pub number_is_words : (word : List ℕ) (n : ℕ) → IsWord word → n < 10 ^ 10 → AllByRecursion IsWord (word ∷ decimal n ∷ [])
 number_is_words word n h small = (h, (IsWord-decimal n small, tt))
 
+-- a window is made of words
 pub window_is_words : (n : ℕ × ℕ) → n.0 < 10 ^ 10 → n.1 < 10 ^ 10 → AllByRecursion IsWord (window_words n)
 window_is_words n a b = (tested_word (codes "window") refl, (IsWord-decimal n.0 a, (IsWord-decimal n.1 b, tt)))
 
 -- ---- what was written is read again
 
+-- what a setup says before its players
 abbrev pub head_of : Setup → Head
 head_of s = record { control = s.control; starts = s.starts; ends = s.ends; wave_ms = s.wave_ms; leaders = s.leaders }
 
+-- these lines of a good setup are read again
 pub head_again : (s : Setup) (rest : List ℕ) → IsGood s → head_in (lines_of (version_line ++ (control_line s.control ++ (window_line s ++ (wave_line s ++ (leaders_line s ++ rest)))))) ≡ Ok (head_of s, lines_of rest)
 unfolding head_in version_line control_line window_line wave_line leaders_line
 head_again s rest h =
@@ -176,15 +192,19 @@ pub record IsHead (h : Head) : Type 0 where
   pub leaders_least : 1 ≤ h.leaders
   pub leaders_most : h.leaders ≤ 20
 
+-- the five lines before a rest
 abbrev pub head_text : Head → List ℕ → List ℕ
 head_text h rest = line (codes "arena" ∷ codes "1" ∷ []) ++ (line (control_words h.control) ++ (line (window_words (h.starts, h.ends)) ++ (line (codes "wave" ∷ decimal h.wave_ms ∷ []) ++ (line (codes "leaders" ∷ decimal h.leaders ∷ []) ++ rest))))
 
+-- five lines, one behind the other, are this text
 five_lines : (h : Head) (a b c d e f : List ℕ) → a ≡ line (codes "arena" ∷ codes "1" ∷ []) ++ b → b ≡ line (control_words h.control) ++ c → c ≡ line (window_words (h.starts, h.ends)) ++ d → d ≡ line (codes "wave" ∷ decimal h.wave_ms ∷ []) ++ e → e ≡ line (codes "leaders" ∷ decimal h.leaders ∷ []) ++ f → a ≡ head_text h f
 five_lines h a b c d e f p q r s t = rw (p, q, r, s, t) refl
 
+-- the first line is that of the version
 version_takes : (lines : List (List ℕ)) (n : List ℕ × List (List ℕ)) → next lines ≡ Ok n → bytes_eq n.0 (codes "arena 1") ≡ true → joined lines ≡ line (codes "arena" ∷ codes "1" ∷ []) ++ joined n.1
 version_takes lines n e is = next_takes lines n e ∙ ap (λ (bytes : List ℕ). bytes ++ (10 ∷ joined n.1)) ((bytes_eq-Decides n.0 (codes "arena 1")).0 is)
 
+-- what is read of these lines was written so, and is in range
 pub head_takes : (lines : List (List ℕ)) (r : Head × List (List ℕ)) → head_in lines ≡ Ok r → (joined lines ≡ head_text r.0 (joined r.1)) × IsHead r.0
 unfolding head_in
 head_takes lines r e =

@@ -22,6 +22,7 @@ chose_some : (b : Bool) (n at : ℕ) → cond b (Some n) None ≡ Some at → (b
 chose_some true n at e = (refl, cc)
 chose_some false n at e = absurd cc
 
+-- the test failed, by what it chose
 chose_none : (b : Bool) (n : ℕ) → cond b (Some n) None ≡ None → b ≡ false
 chose_none true n e = absurd cc
 chose_none false n e = refl
@@ -45,9 +46,11 @@ first-cons byte part rest =
     let some = parts_of-first byte rest in
     subst (λ (parts : List (List ℕ)). first (part ∷ parts) ≡ Some (part, parts)) (sym some.2) refl
 
+-- the first part of bytes that are cut, in one equation
 pub first-parts_of_found : (byte : ℕ) (bytes : List ℕ) (at : ℕ) → position (λ b. eqb b byte) bytes ≡ Some at → Some (take at bytes, parts_of byte (drop (at + 1) bytes)) ≡ first (parts_of byte bytes)
 first-parts_of_found byte bytes at found = sym (ap first (parts_of-found byte bytes at found) ∙ first-cons byte (take at bytes) (drop (at + 1) bytes))
 
+-- bytes that are not cut have no first part before others
 pub first-parts_of_none : (byte : ℕ) (bytes : List ℕ) → position (λ b. eqb b byte) bytes ≡ None → None ≡ first (parts_of byte bytes)
 first-parts_of_none byte bytes none = sym (ap first (parts_of-none byte bytes none))
 
@@ -57,6 +60,7 @@ is_end-joined byte [] bytes some e = absurd (omega arith)
 is_end-joined byte (part ∷ []) bytes some e = ap (λ (bs : List ℕ). eqb (length bs) 0) e
 is_end-joined byte (part ∷ after ∷ more) bytes some e = sym (ne_eqb (length bytes) 0 (λ zero. omega (arith, ap length e, length-append part (byte ∷ join_with_byte byte (after ∷ more)))))
 
+-- nothing is left of the parts exactly where there are no bytes
 pub is_end-parts_of : (byte : ℕ) (bytes : List ℕ) → is_end (parts_of byte bytes) ≡ eqb (length bytes) 0
 is_end-parts_of byte bytes =
     let some : 0 < length (parts_of byte bytes) = omega (arith, length-slice_split (λ b. eqb b byte) bytes) in

@@ -29,18 +29,22 @@ use Rattle.journal_text.proofs.Steps.{players_step}
 
 -- ---- a player
 
+-- the words of a player
 abbrev pub player_words : Player → List (List ℕ)
 player_words p = codes "player" ∷ decimal p.rating ∷ team_word p.team ∷ p.name ∷ []
 
+-- a word that passes the test for names is a name
 name_takes : (name : List ℕ) → is_name name ≡ true → IsName name
 name_takes name e =
     let parts = and_parts (is_within 1 20 (length name)) (list_all is_name_byte name) e in
     let long = and_parts (leb 1 (length name)) (leb (length name) 20) parts.0 in
     (leb-true 1 (length name) long.0, leb-true (length name) 20 long.1, AllPass-from_list_all is_name_byte name parts.1)
 
+-- a name passes the test for names
 name_again : (name : List ℕ) → IsName name → is_name name ≡ true
 name_again name named = and_from (is_within 1 20 (length name)) (list_all is_name_byte name) (and_from (leb 1 (length name)) (leb (length name) 20) (le-leb 1 (length name) named.0) (le-leb (length name) 20 named.1)) (list_all-from_AllPass is_name_byte name named.2)
 
+-- the word that is read as a team is that team's
 team_takes : (word : List ℕ) (team : Option ℕ) → team_form word ≡ Some team → word ≡ team_word team
 unfolding team_form
 team_takes word team e =
@@ -51,12 +55,14 @@ team_takes word team e =
           subst (λ (team : Option ℕ). word ≡ team_word team) (some_is (Some n.0) team n.2) (decimal_is word n.0 n.1)
     ]
 
+-- the values of a player that were read
 player_fields : (a : Option ℕ) (t : Option (Option ℕ)) (named : Bool) (name : List ℕ) (p : ℕ × Option ℕ × List ℕ) → option_and_then (λ r. option_and_then (λ u. cond named (Some (r, u, name)) None) t) a ≡ Some p → (a ≡ Some p.0) × (t ≡ Some p.1) × (named ≡ true) × (name ≡ p.2)
 player_fields None t named name p e = absurd cc
 player_fields (Some r) None named name p e = absurd cc
 player_fields (Some r) (Some u) false name p e = absurd cc
 player_fields (Some r) (Some u) true name p e = subst (λ (p : ℕ × Option ℕ × List ℕ). (some r ≡ some p.0) × (some u ≡ some p.1) × (true ≡ true) × (name ≡ p.2)) (some_is (r, u, name) p e) (refl, refl, refl, refl)
 
+-- a line with the form of a player has just his words, and a name
 player_form_is : (words : List (List ℕ)) (p : ℕ × Option ℕ × List ℕ) → player_form words ≡ Some p → (words ≡ player_words (player_made p)) × IsName p.2
 unfolding player_form
 player_form_is words p e =
@@ -66,10 +72,12 @@ player_form_is words p e =
       subst IsName f.3 (name_takes w.0.3 f.2),
     )
 
+-- without teams nobody is in one
 no_team : (team : Option ℕ) → team_fits team ≡ true → IsTeamOf 0 team
 no_team None e = tt
 no_team (Some n) e = absurd cc
 
+-- the player that a line says has these words, and is in range
 pub player_takes : (words : List (List ℕ)) (p : Player) → player_in words ≡ Ok p → (words ≡ player_words p) × IsPlayer 0 p
 unfolding player_in
 player_takes words p e =
@@ -79,11 +87,13 @@ player_takes words p e =
     let is = player_form_is words j.0 j.1 in
     subst (λ (p : Player). (words ≡ player_words p) × IsPlayer 0 p) j.3 (is.0, record { named = is.1; rating_least = leb-true 400 j.0.0 range.0; rating_most = leb-true j.0.0 4000 range.1; in_team = no_team j.0.1 fit.1 })
 
+-- who is in no team is read as such
 team_again : (team : Option ℕ) → IsTeamOf 0 team → (team_form (team_word team) ≡ Some team) × (team_fits team ≡ true)
 unfolding team_form
 team_again None h = (refl, refl)
 team_again (Some n) h = absurd (omega (arith, h))
 
+-- the words of a player in range say this player
 pub player_again : (p : Player) → IsPlayer 0 p → player_in (player_words p) ≡ Ok p
 unfolding player_in player_form
 player_again p h =
@@ -93,18 +103,22 @@ player_again p h =
 
 -- ---- the words of these lines
 
+-- the word for no team is a word
 team_is_word : (team : Option ℕ) → IsTeamOf 0 team → IsWord (team_word team)
 team_is_word None h = tested_word (codes "-") refl
 team_is_word (Some n) h = absurd (omega (arith, h))
 
+-- a player is made of words
 pub player_is_words : (p : Player) → IsPlayer 0 p → AllByRecursion IsWord (player_words p)
 player_is_words p h = (tested_word (codes "player") refl, (IsWord-decimal p.rating (omega (arith, h.rating_most)), (team_is_word p.team h.in_team, (IsWord-name p.name h.named, tt))))
 
+-- `begin` is a word
 pub begin_is_words : AllByRecursion IsWord (codes "begin" ∷ [])
 begin_is_words = (tested_word (codes "begin") refl, tt)
 
 -- ---- what was written is read again
 
+-- the names of players, in order
 abbrev names_of : List Player → List (List ℕ)
 names_of players = map (λ (p : Player). p.name) players
 
@@ -117,6 +131,7 @@ is_taken-none (p ∷ players) name other =
       | inr there ↦ let rest = is_taken-none players name (λ k d inside. other (suc k) d (omega arith)) in false≢true (sym rest ∙ there)
     ])
 
+-- what reading answers for these players
 abbrev players_read : List Player → List (List ℕ) → Result (List Player × List (List ℕ)) JournalFault
 players_read players lines = Ok (players, lines)
 
@@ -129,6 +144,7 @@ not_before sofar ps p distinct k d inside same =
     let high : get_or names (length sofar) [] ≡ p.name = get_or-map (λ (p : Player). p.name) (sofar ++ p ∷ ps) (length sofar) d [] long ∙ ap (λ (p : Player). p.name) (get_or_at sofar p ps d (length sofar) refl) in
     distinct k (length sofar) [] inside (omega (arith, length-map (sofar ++ p ∷ ps) (λ (p : Player). p.name))) (low ∙ same ∙ sym high)
 
+-- players that were written are read again, behind those that were read before
 pub players_again : (ps sofar : List Player) (rest : List ℕ) → length (sofar ++ ps) ≤ 1000 → 0 < length (sofar ++ ps) → AllByRecursion (IsPlayer 0) ps → AreDistinct (names_of (sofar ++ ps))
     → players_in sofar (lines_of (flat_map player_line ps ++ (line (codes "begin" ∷ []) ++ rest))) ≡ Ok (sofar ++ ps, lines_of rest)
 unfolding player_line
@@ -164,6 +180,7 @@ pub record ArePlayers (players : List Player) : Type 0 where
   pub good : All (IsPlayer 0) players
   pub distinct : AreDistinct (names_of players)
 
+-- no players are as they may be
 pub no_players : ArePlayers []
 no_players = record { most = omega arith; good = All-nil (IsPlayer 0); distinct = λ i j d low high. absurd (omega arith) }
 
@@ -173,18 +190,22 @@ not_taken [] name free k d inside same = absurd (omega arith)
 not_taken (p ∷ players) name free zero d inside same = let parts = or_parts (bytes_eq p.name name) (is_taken players name) free in false≢true (sym parts.0 ∙ (bytes_eq-Decides p.name name).1 same)
 not_taken (p ∷ players) name free (suc k) d inside same = let parts = or_parts (bytes_eq p.name name) (is_taken players name) free in not_taken players name parts.1 k d (omega (arith, inside)) same
 
+-- there was room, and the name was free
 two_tests : (a b : Bool) → cond a (cond b (Err Form) (passed)) (Err Form) ≡ passed → (a ≡ true) × (b ≡ false)
 two_tests true true e = absurd cc
 two_tests true false e = (refl, refl)
 two_tests false b e = absurd cc
 
+-- there was a player
 guard_begun : (b : Bool) → cond b (Err Form) passed ≡ passed → b ≡ false
 guard_begun true e = absurd cc
 guard_begun false e = refl
 
+-- who may join finds room and a free name
 joins_ok : (players : List Player) (name : List ℕ) → joins players name ≡ Ok tt → (length players < 1000) × (is_taken players name ≡ false)
 joins_ok players name e = let t = two_tests (ltb (length players) 1000) (is_taken players name) e in (ltb-true (length players) 1000 t.0, t.1)
 
+-- with a free name all names differ again
 distinct_more : (players : List Player) (p : Player) → AreDistinct (names_of players) → is_taken players p.name ≡ false → AreDistinct (names_of (players ++ p ∷ []))
 distinct_more players p distinct free =
     let name : Player → List ℕ = λ q. q.name in
@@ -193,6 +214,7 @@ distinct_more players p distinct free =
     not_taken players p.name free k p low (sym (get_or-map name players k p d low) ∙ same) in
     subst AreDistinct (sym (map_push name players p)) (all_pairs_push (λ a b. a ≢ b) (names_of players) p.name distinct apart)
 
+-- who may join is one more
 one_more : (players : List Player) (p : Player) → ArePlayers players → IsPlayer 0 p → joins players p.name ≡ Ok tt → ArePlayers (players ++ p ∷ [])
 one_more players p h good e =
     let j = joins_ok players p.name e in
@@ -210,9 +232,11 @@ pub record TakesPlayers (text : List ℕ) (sofar : List Player) (r : List Player
   pub good : ArePlayers r.0
   pub some : 1 ≤ length r.0
 
+-- `begin` stands behind a player
 begun_ok : (players : List Player) → begun players ≡ Ok tt → 1 ≤ length players
 begun_ok players e = let b = guard_begun (eqb (length players) 0) e in omega (arith, eqb-false (length players) 0 b)
 
+-- at `begin` no player is new
 players_begun : (bytes : List ℕ) (behind : List (List ℕ)) (sofar : List Player) → ArePlayers sofar → bytes ≡ codes "begin" → 1 ≤ length sofar → TakesPlayers (bytes ++ (10 ∷ joined behind)) sofar (sofar, behind)
 players_begun bytes behind sofar h same some = record {
   new = [];
@@ -222,6 +246,7 @@ players_begun bytes behind sofar h same some = record {
   some = some;
 }
 
+-- behind a player come those that are read behind him
 players_more : (bytes : List ℕ) (behind : List (List ℕ)) (sofar : List Player) (p : Player) (r : List Player × List (List ℕ)) → bytes ≡ spaced (player_words p) → TakesPlayers (joined behind) (sofar ++ p ∷ []) r → TakesPlayers (bytes ++ (10 ∷ joined behind)) sofar r
 unfolding player_line
 players_more bytes behind sofar p r same rest = record {
@@ -232,6 +257,7 @@ players_more bytes behind sofar p r same rest = record {
   some = rest.some;
 }
 
+-- players that are read were written so
 pub players_take : (lines : List (List ℕ)) (sofar : List Player) (r : List Player × List (List ℕ)) → ArePlayers sofar → players_in sofar lines ≡ Ok r → TakesPlayers (joined lines) sofar r
 unfolding players_in
 players_take [] sofar r h e = absurd cc

@@ -12,6 +12,7 @@ use Rattle.journal_text.proofs.Fails.{bind_ok, at_line_ok, text_ok_is}
 abbrev pub joined : List (List ℕ) → List ℕ
 joined parts = join_with_byte 10 parts
 
+-- the next line, a line feed, and what is behind it
 pub next_takes : (lines : List (List ℕ)) (n : List ℕ × List (List ℕ)) → next lines ≡ Ok n → joined lines ≡ n.0 ++ (10 ∷ joined n.1)
 next_takes [] n e = absurd cc
 next_takes (rest ∷ []) n e = absurd cc

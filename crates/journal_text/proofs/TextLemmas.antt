@@ -12,9 +12,11 @@ use Rattle.journal_text.proofs.Built.{has_unbuilt-text_of}
 pub journal_in-spelled : (text : List ℕ) (j : Journal) → Spells text j → HasNoTeams j → journal_in text ≡ Ok j
 journal_in-spelled text j h none = ap journal_in (sym h.text) ∙ journal_again j h.writable none
 
+-- one reading gives one journal
 ok_is : (a b : Journal) (r : Result Journal JournalFault) → r ≡ Ok a → r ≡ Ok b → a ≡ b
 ok_is a b r p q = cc
 
+-- one reading does not both give a journal and refuse
 not_both : (a : Journal) (fault : JournalFault) (r : Result Journal JournalFault) → r ≡ Ok a → r ≡ Err fault → ⊥
 not_both a fault r p q = cc
 
@@ -26,6 +28,7 @@ read_is text read j e h none = ok_is read j (journal_in text) e (journal_in-spel
 pub refused_is : (text : List ℕ) (fault : JournalFault) (j : Journal) → journal_in text ≡ Err fault → HasNoTeams j → Spells text j → ⊥
 refused_is text fault j e none h = not_both j fault (journal_in text) (journal_in-spelled text j h none) e
 
+-- journals that have one text are one journal
 pub spelled_once : (text : List ℕ) (a b : Journal) → Spells text a → Spells text b → HasNoTeams a → HasNoTeams b → a ≡ b
 spelled_once text a b p q r s = read_is text a b (journal_in-spelled text a p r) q s
 

@@ -27,9 +27,11 @@ use Rattle.journal_text.proofs.EntryLines.{entries_again, no_entries, entries_ta
 pub regroup : (v c w a l t p b e z : List ℕ) → t ≡ [] → v ++ c ++ w ++ a ++ l ++ t ++ p ++ b ++ e ++ z ≡ v ++ (c ++ (w ++ (a ++ (l ++ (p ++ (b ++ (e ++ (z ++ []))))))))
 regroup v c w a l t p b e z none = rw none (simp (append_assoc, append-nil))
 
+-- what reading answers for this journal
 abbrev journal_read : Journal → Result Journal JournalFault
 journal_read j = Ok j
 
+-- the text of a journal is read again as this journal
 pub journal_again : (j : Journal) → IsWritable j → HasNoTeams j → journal_in (text_of j) ≡ Ok j
 unfolding journal_in text_of setup_text
 journal_again j h none =
@@ -47,11 +49,13 @@ journal_again j h none =
       entries_again (length s.players) j.entries [] [] h.setup.players_most h.entries_most entries_good,
     ) (ap (λ (teams : List (List ℕ)). journal_read (record { setup = record s { teams = teams }; entries = j.entries })) (sym none))
 
+-- where nothing is left the rest has no bytes
 nothing_left : (parts : List (List ℕ)) → is_end parts ≡ true → joined parts ≡ []
 nothing_left [] e = refl
 nothing_left (rest ∷ []) e = nil_from_length rest (eqb-true (length rest) 0 e)
 nothing_left (part ∷ after ∷ more) e = absurd cc
 
+-- three parts, one behind the other, are the text of a journal
 whole_text : (h : Head) (players : List Player) (entries : List Entry) (text a b c : List ℕ) → text ≡ head_text h a → a ≡ flat_map player_line players ++ (line (codes "begin" ∷ []) ++ b) → b ≡ flat_map entry_line entries ++ (line (codes "end" ∷ []) ++ c) → c ≡ []
     → text_of (record { setup = setup_made h players; entries = entries }) ≡ text
 unfolding text_of setup_text version_line control_line window_line wave_line leaders_line
@@ -59,9 +63,11 @@ whole_text h players entries text a b c p q r s =
     regroup (line (codes "arena" ∷ codes "1" ∷ [])) (line (control_words h.control)) (line (window_words (h.starts, h.ends))) (line (codes "wave" ∷ decimal h.wave_ms ∷ [])) (line (codes "leaders" ∷ decimal h.leaders ∷ [])) [] (flat_map player_line players) (line (codes "begin" ∷ [])) (flat_map entry_line entries) (line (codes "end" ∷ [])) refl
     ∙ sym (rw (p, q, r, s) refl)
 
+-- no names are distinct names
 no_teams_distinct : AreDistinct []
 no_teams_distinct = λ i j d low high. absurd (omega arith)
 
+-- lines and players in range make a good setup
 good_setup : (h : Head) (players : List Player) → IsHead h → ArePlayers players → 1 ≤ length players → IsGood (setup_made h players)
 good_setup h players ranges are some = record {
   timed = ranges.timed;

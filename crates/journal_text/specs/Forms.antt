@@ -15,6 +15,7 @@ use Rattle.journal_text.specs.declared.fault.JournalCause.{JournalCause}
 use Rattle.journal_text.specs.declared.fault.JournalCause.TheVariants.{Form}
 use Rattle.journal_text.specs.Lines.{first, two, three, four}
 
+-- the next step, where this one gave a value
 infixl 10 ◌>>=◌
 abbrev pub ◌>>=◌ : {A B : Type 0} → Option A → (A → Option B) → Option B
 o >>= f = option_and_then f o
@@ -30,6 +31,7 @@ number_form word words = do
   w ← two words
   if bytes_eq w.0 word then number_of w.1 else None
 
+-- from the least to the most
 abbrev pub is_within : ℕ → ℕ → ℕ → Bool
 is_within least most n = nat_le least n && nat_le n most
 
@@ -47,13 +49,15 @@ control_form words = do
     opening ← number_of w.3
     Some (initial, increment, opening)) else None
 
--- seconds and seconds, not both 0, and milliseconds
+-- up to 10,800 and up to 180 seconds, not both 0, and 1,000 to 300,000 milliseconds
 abbrev pub control_fits : ℕ × ℕ × ℕ → Bool
 control_fits n = nat_le n.0 10800 && nat_le n.1 180 && not (n.0 == 0 && n.1 == 0) && is_within 1000 300000 n.2
 
+-- seconds are a thousand milliseconds each
 abbrev pub control_made : ℕ × ℕ × ℕ → Control
 control_made n = record { initial_ms = n.0 * 1000; inc_ms = n.1 * 1000; first_ms = n.2 }
 
+-- the time control of its line
 unfoldable pub control_in : List (List ℕ) → Result Control JournalCause
 control_in words = judged (control_form words) control_fits control_made
 
@@ -66,9 +70,11 @@ window_form words = do
     ends ← number_of w.2
     Some (starts, ends)) else None
 
+-- the start before the end, and the end at most 900,000,000
 abbrev pub window_fits : ℕ × ℕ → Bool
 window_fits n = nat_lt n.0 n.1 && nat_le n.1 900000000
 
+-- the start and the end of an arena, of their line
 unfoldable pub window_in : List (List ℕ) → Result (ℕ × ℕ) JournalCause
 window_in words = judged (window_form words) window_fits (λ n. n)
 
@@ -96,12 +102,15 @@ abbrev pub team_fits : Option ℕ → Bool
 team_fits None = true
 team_fits (Some team) = false
 
+-- 400 to 4,000 rating points, and no team
 abbrev pub player_fits : ℕ × Option ℕ × List ℕ → Bool
 player_fits p = is_within 400 4000 p.0 && team_fits p.1
 
+-- the player with this rating, team and name
 abbrev pub player_made : ℕ × Option ℕ × List ℕ → Player
 player_made p = record { name = p.2; rating = p.0; team = p.1 }
 
+-- the player of his line
 unfoldable pub player_in : List (List ℕ) → Result Player JournalCause
 player_in words = judged (player_form words) player_fits player_made
 
@@ -127,16 +136,19 @@ entry_form words = do
   did ← what_form b.1
   Some (stamp, pass, did.0, did.1)
 
+-- a stamp up to 1,000,000,000, a pass up to 255 and a player of the arena
 abbrev pub entry_fits : ℕ → ℕ × ℕ × Kind × ℕ → Bool
 entry_fits players e = nat_le e.0 1000000000 && nat_le e.1 255 && nat_lt e.3 players
 
+-- what an entry of this kind did
 abbrev pub what_made : Kind → ℕ → What
 what_made Enter player = what.Enter player
 what_made Leave player = what.Leave player
 
+-- the entry with this stamp and pass, and what it did
 abbrev pub entry_made : ℕ × ℕ × Kind × ℕ → Entry
 entry_made e = record { stamp = e.0; pass = e.1; what = what_made e.2 e.3 }
 
--- an entry of an arena with so many players
+-- the entry of its line, in an arena with so many players
 unfoldable pub entry_in : ℕ → List (List ℕ) → Result Entry JournalCause
 entry_in players words = judged (entry_form words) (entry_fits players) entry_made

@@ -26,11 +26,13 @@ Gives view (Ok x) reading = reading ≡ Ok (view x)
 Gives view (Err (Bad fault)) reading = reading ≡ Err fault
 Gives view (Err OutOfMemory) reading = Unit {0}
 
+-- the next step, where this one gave no fault
 infixl 10 ◌>>=◌
 abbrev pub ◌>>=◌ : {A B : Type 0} → Result A JournalFault → (A → Result B JournalFault) → Result B JournalFault
 (Ok x) >>= f = f x
 (Err fault) >>= f = Err fault
 
+-- the next step, where the line may stand
 infixl 10 ◌>>◌
 abbrev pub ◌>>◌ : {B : Type 0} → Result (Unit {0}) JournalFault → Result B JournalFault → Result B JournalFault
 (Ok done) >> further = further
@@ -107,6 +109,7 @@ entries_in players entries (line ∷ after ∷ more) =
       at_line (follows (length entries))
       entries_in players (entries ++ e ∷ []) (after ∷ more))
 
+-- the setup with these lines and these players, and without teams
 abbrev pub setup_made : Head → List Player → Setup
 setup_made head players = record { control = head.control; starts = head.starts; ends = head.ends; wave_ms = head.wave_ms; leaders = head.leaders; teams = []; players = players }
 

@@ -50,9 +50,13 @@ abbrev pub what_words : What → List (List ℕ)
 what_words (Enter player) = codes "enter" ∷ decimal player ∷ []
 what_words (Leave player) = codes "leave" ∷ decimal player ∷ []
 
--- `STAMP PASS` and what the entry did
+-- the words of an entry: `STAMP PASS`, and what it did
+abbrev pub entry_words : Entry → List (List ℕ)
+entry_words e = decimal e.stamp ∷ decimal e.pass ∷ what_words e.what
+
+-- the line of an entry
 unfoldable pub entry_line : Entry → List ℕ
-entry_line e = line (decimal e.stamp ∷ decimal e.pass ∷ what_words e.what)
+entry_line e = line (entry_words e)
 
 -- the version, the values, the teams and the players of an arena, and `begin`
 unfoldable pub setup_text : Setup → List ℕ

@@ -1,3 +1,4 @@
+// FEN: how a position is written, and read again field by field.
 mod board;
 mod cut;
 mod fault;

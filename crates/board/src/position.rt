@@ -11,7 +11,7 @@ use std::marker::Model;
 
 /// A position that a game can have as far as one look at it tells: one king on each side, no pawn on the first or last
 /// rank, king and rook at home for each right to castle, an en passant square only behind a pawn that can just have made
-/// the double step, the side that is not to move not in check, and a move number of at least 1.
+/// the double step, the side that is not to move not in check, and a move number of at least 1. It takes 204 bytes.
 #[derive(Clone, Copy, Debug, PartialEq, Eq)]
 pub struct Position {
     parts: Parts,
@@ -61,7 +61,7 @@ impl Position {
         }
     }
 
-    /// A copy of the parts.
+    /// A copy of the parts, which meet what every position keeps.
     pub fn parts(&self) -> Parts
         ensures is { result ≡ self.now }
         ensures keeps { IsPosition result }
@@ -69,7 +69,7 @@ impl Position {
         self.parts
     }
 
-    /// The parts, where they lie.
+    /// The parts where they lie, for reading without a copy.
     pub fn as_parts(&self) -> &Parts
         ensures is { result.now ≡ self.now }
         ensures keeps { IsPosition result.now }

@@ -61,7 +61,7 @@ impl Square {
         self.0 / 8
     }
 
-    /// How many files lie between two squares.
+    /// How many files apart the two squares are.
     pub fn files_to(self, to: Square) -> u8
         ensures is { result ≡ apart (file_of self) (file_of to) }
         ensures on_board { result < 8 }
@@ -69,7 +69,7 @@ impl Square {
         self.file().abs_diff(to.file())
     }
 
-    /// How many ranks lie between two squares.
+    /// How many ranks apart the two squares are.
     pub fn ranks_to(self, to: Square) -> u8
         ensures is { result ≡ apart (rank_of self) (rank_of to) }
         ensures on_board { result < 8 }

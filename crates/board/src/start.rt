@@ -1,5 +1,5 @@
 ghost use Rattle.std.specs.Prelude.{◌≡◌};
-ghost use Rattle.board.specs.Start.{officers, pawns, start_parts};
+ghost use Rattle.board.specs.Start.{man, officers, pawns, start_parts};
 
 use crate::piece::{Colour, Kind, Piece};
 
@@ -8,8 +8,6 @@ fn man(colour: Colour, kind: Kind) -> Option<Piece>
 {
     Some(Piece { colour, kind })
 }
-
-ghost use Rattle.board.specs.Start.{man};
 
 fn officers(colour: Colour) -> [Option<Piece>; 8]
     ensures { result ≡ officers colour }

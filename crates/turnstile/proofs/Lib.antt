@@ -1,0 +1,13 @@
+pub mod Between
+pub mod Closing
+pub mod Counts
+pub mod Crossing
+pub mod Hands
+pub mod Looking
+pub mod Making
+pub mod Newcomers
+pub mod Own
+pub mod Publishing
+pub mod Seats
+pub mod Serving
+pub mod Taking

@@ -12,8 +12,7 @@ use Rattle.journal_text.proofs.TextLemmas.{spelled_once}
 use Rattle.arena_main.specs.declared.replay_end.IllegalCause.{IllegalCause}
 use Rattle.arena_main.specs.Fates as fate
 use Rattle.arena_main.specs.Fates.{Fate}
-use Rattle.arena_main.specs.Replayed.{cause_of, IsFirstIllegal, SpellsSome, Replayed}
-use Rattle.arena_main.specs.Table.{table}
+use Rattle.arena_main.specs.Replayed.{cause_of, IsFirstIllegal, SpellsSome, HasTable, Replayed}
 use Rattle.arena_main.proofs.Causes.{cause_of-allowed}
 
 -- an element of a list stands in each beginning that reaches to it
@@ -78,10 +77,10 @@ one_fate bytes (fate.Illegal c) (fate.BadJournal d) (short, (j, spells, no_teams
 one_fate bytes (fate.Illegal c) (fate.Illegal d) (short, (j, spells, no_teams, illegal)) y =
     ap fate.Illegal (first_cause j.setup j.entries c d illegal (of_spelled bytes (λ k. IsFirstIllegal k.setup k.entries d) j spells no_teams y.1))
 one_fate bytes (fate.Illegal c) (fate.Table u) (short, (j, spells, no_teams, illegal)) y =
-    absurd (legal_or_not j.setup j.entries c (of_spelled bytes (λ k. IsLegal k.setup k.entries × (u ≡ table k.setup k.entries)) j spells no_teams y.1).0 illegal)
+    absurd (legal_or_not j.setup j.entries c (of_spelled bytes (λ k. HasTable k u) j spells no_teams y.1).0 illegal)
 one_fate bytes (fate.Table t) fate.TooLong x y = absurd (omega (arith, x.0, y))
 one_fate bytes (fate.Table t) (fate.BadJournal d) (short, (j, spells, no_teams, legal)) y = absurd (y.1.no_journal j no_teams spells)
 one_fate bytes (fate.Table t) (fate.Illegal d) (short, (j, spells, no_teams, legal)) y =
     absurd (legal_or_not j.setup j.entries d legal.0 (of_spelled bytes (λ k. IsFirstIllegal k.setup k.entries d) j spells no_teams y.1))
 one_fate bytes (fate.Table t) (fate.Table u) (short, (j, spells, no_teams, legal)) y =
-    ap fate.Table (legal.1 ∙ sym (of_spelled bytes (λ k. IsLegal k.setup k.entries × (u ≡ table k.setup k.entries)) j spells no_teams y.1).1)
+    ap fate.Table (legal.1 ∙ sym (of_spelled bytes (λ k. HasTable k u) j spells no_teams y.1).1)

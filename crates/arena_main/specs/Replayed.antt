@@ -39,9 +39,17 @@ pub record IsFirstIllegal (s : Setup) (es : List Entry) (cause : IllegalCause) :
 abbrev pub SpellsSome : List ℕ → (JournalValue → Type 0) → Type 0
 SpellsSome bytes P = (j : JournalValue) × Spells bytes j × HasNoTeams j × P j
 
+-- the journal is legal, and this is its table
+abbrev pub HasTable : JournalValue → List ℕ → Type 0
+HasTable j text = IsLegal j.setup j.entries × (text ≡ table j.setup j.entries)
+
+-- at most 400,000,000 bytes
+abbrev pub IsShort : List ℕ → Type 0
+IsShort bytes = length bytes ≤ 400000000
+
 -- what a text comes to
 abbrev pub Replayed : List ℕ → Fate → Type 0
 Replayed bytes TooLong = 400000000 < length bytes
-Replayed bytes (BadJournal cause) = (length bytes ≤ 400000000) × IsRefused bytes cause
-Replayed bytes (Illegal cause) = (length bytes ≤ 400000000) × SpellsSome bytes (λ j. IsFirstIllegal j.setup j.entries cause)
-Replayed bytes (Table text) = (length bytes ≤ 400000000) × SpellsSome bytes (λ j. IsLegal j.setup j.entries × (text ≡ table j.setup j.entries))
+Replayed bytes (BadJournal cause) = IsShort bytes × IsRefused bytes cause
+Replayed bytes (Illegal cause) = IsShort bytes × SpellsSome bytes (λ j. IsFirstIllegal j.setup j.entries cause)
+Replayed bytes (Table text) = IsShort bytes × SpellsSome bytes (λ j. HasTable j text)

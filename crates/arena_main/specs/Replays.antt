@@ -43,12 +43,18 @@ HadFate told f = IfSome told (λ bytes. Replayed bytes f)
 abbrev pub IsReadToEnd : Option (List ℕ) → Option (List ℕ) → Type 0
 IsReadToEnd told left = IfSome told (λ bytes. left ≡ Some [])
 
+-- the bytes that a source or a sink tells, where it does
+abbrev Told : Type 0
+Told = Option (List ℕ)
+
 -- what stands where a replay ends so: what the source had and has left, what the sink held and holds
-abbrev pub Ends : Option (List ℕ) → Option (List ℕ) → Option (List ℕ) → Option (List ℕ) → ReplayEnd → Type 0
-Ends told left old new Done = (text : List ℕ) × HadFate told (fate.Table text) × Gained old new text × IsReadToEnd told left
+abbrev pub Ends : Told → Told → Told → Told → ReplayEnd → Type 0
+Ends told left old new Done =
+    (text : List ℕ) × HadFate told (fate.Table text) × Gained old new text × IsReadToEnd told left
 Ends told left old new (BadJournal fault) = HadFate told (fate.BadJournal fault.cause) × (new ≡ old)
 Ends told left old new (Illegal line cause) = HadFate told (fate.Illegal cause) × (new ≡ old)
 Ends told left old new TooLong = HadFate told fate.TooLong × (new ≡ old)
 Ends told left old new ReadFault = new ≡ old
-Ends told left old new WriteFault = (text : List ℕ) × HadFate told (fate.Table text) × GainedPart old new text
+Ends told left old new WriteFault =
+    (text : List ℕ) × HadFate told (fate.Table text) × GainedPart old new text
 Ends told left old new OutOfMemory = new ≡ old

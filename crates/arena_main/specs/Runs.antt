@@ -44,9 +44,22 @@ status_due (fate.BadJournal cause) = BadJournal
 status_due (fate.Illegal cause) = Illegal
 status_due (fate.Table text) = Done
 
+-- what is written of a text that comes to this: its table, or nothing
+abbrev pub written_due : Fate → List ℕ
+written_due fate.TooLong = []
+written_due (fate.BadJournal cause) = []
+written_due (fate.Illegal cause) = []
+written_due (fate.Table text) = text
+
 -- a read or a write failed, or memory ran out
 abbrev pub IsHindered : Status → Type 0
 IsHindered status = (status ≡ ReadFault) ⊎ (status ≡ WriteFault) ⊎ (status ≡ OutOfMemory)
+
+-- a replay of a text that comes to this ended with the status that is due, and the sink gained exactly what is due, unless the
+-- run was hindered
+abbrev pub MeetsFate : Fate → Option (List ℕ) → Option (List ℕ) → Status → Type 0
+MeetsFate f old new status =
+    ((status ≡ status_due f) × Gained old new (written_due f)) ⊎ IsHindered status
 
 -- the status with which the program ends
 abbrev pub code_of : Status → ℕ

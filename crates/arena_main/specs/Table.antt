@@ -20,7 +20,8 @@ counted_games s h = 0
 
 -- `POINTS PERFORMANCE GAMES`
 abbrev pub score_words : Score → List (List ℕ)
-score_words score = decimal score.points ∷ signed_decimal score.performance ∷ decimal score.games ∷ []
+score_words score =
+    decimal score.points ∷ signed_decimal score.performance ∷ decimal score.games ∷ []
 
 -- `PLACE NAME RATING POINTS PERFORMANCE GAMES`, the place counting from 1
 unfoldable pub player_line : ℕ → Player → Score → List ℕ
@@ -28,7 +29,8 @@ player_line place p score = line (decimal place ∷ p.name ∷ decimal p.rating 
 
 -- the line of the player with this number, where somebody has it
 abbrev pub line_at : Setup → History → ℕ → ℕ → List ℕ
-line_at s h place p = option_map_or (λ player. player_line place player (score_of s h p)) (slice_get s.players p) []
+line_at s h place p =
+    option_map_or (λ player. player_line place player (score_of s h p)) (slice_get s.players p) []
 
 -- the lines of these players, the first of whom has this place
 unfoldable pub player_lines : Setup → History → ℕ → List ℕ → List ℕ
@@ -37,7 +39,8 @@ player_lines s h place (p ∷ below) = line_at s h place p ++ player_lines s h (
 
 -- `games F entries N`: how many games count, and how many entries there are
 unfoldable pub count_line : ℕ → ℕ → List ℕ
-count_line games entries = line (codes "games" ∷ decimal games ∷ codes "entries" ∷ decimal entries ∷ [])
+count_line games entries =
+    line (codes "games" ∷ decimal games ∷ codes "entries" ∷ decimal entries ∷ [])
 
 -- the table of a setup and a list of entries: a line for each player who entered, in the order of the table, and the last line
 unfoldable pub table : Setup → List Entry → List ℕ

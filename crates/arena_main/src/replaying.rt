@@ -103,11 +103,14 @@ fn table_of(alloc: Global, bytes: &[u8]) -> Result<Text, NoTable>
 /// Reads a journal to its end, and writes its table if it is legal. Nothing is written otherwise. At most 400,000,001 bytes
 /// are read.
 pub fn replay<S: Source, K: Sink>(alloc: Global, source: &mut S, sink: &mut K) -> ReplayEnd
-    ensures ends { Ends (S.left source.old) (S.left source.new) (K.held sink.old) (K.held sink.new) result }
+    ensures ends { Ends (S.left source.old) (S.left source.new)
+        (K.held sink.old) (K.held sink.new) result }
 
     // A read or a write failed only where that object's count of faults rose.
-    ensures read_fault { result ≡ ReplayEnd.ReadFault → Rose (S.faults source.old) (S.faults source.new) }
-    ensures write_fault { result ≡ ReplayEnd.WriteFault → Rose (K.faults sink.old) (K.faults sink.new) }
+    ensures read_fault { result ≡ ReplayEnd.ReadFault
+        → Rose (S.faults source.old) (S.faults source.new) }
+    ensures write_fault { result ≡ ReplayEnd.WriteFault
+        → Rose (K.faults sink.old) (K.faults sink.new) }
 
     ensures taken { GaveAtMost (S.left source.old) (S.left source.new) (MOST_BYTES + 1) }
 {

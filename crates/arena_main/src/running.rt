@@ -1,11 +1,11 @@
-ghost use Rattle.std.specs.Prelude.{◌≡◌, ◌↔◌, ◌⊎◌, ◌+◌, IsTrue, IfSome};
+ghost use Rattle.std.specs.Prelude.{◌≡◌, ◌↔◌, IsTrue, IfSome};
 ghost use Rattle.conn.specs.Faults.{Rose};
 ghost use Rattle.conn.specs.Told.{GaveAtMost};
 ghost use Rattle.arena_main.specs.declared.replay_end.ReplayEnd.{ReplayEnd as ReplayEndValue};
 ghost use Rattle.arena_main.specs.Fates.{Fate};
 ghost use Rattle.arena_main.specs.Replayed.{Replayed};
 ghost use Rattle.arena_main.specs.Replays.{Ends};
-ghost use Rattle.arena_main.specs.Runs.{IsReplay, RefusesWords, status_of, status_due, IsHindered};
+ghost use Rattle.arena_main.specs.Runs.{IsReplay, RefusesWords, status_of, MeetsFate};
 
 use crate::replay_end::ReplayEnd;
 use crate::replaying::replay;
@@ -17,6 +17,7 @@ use std::alloc::Global;
 const USAGE: &[u8] =
     b"usage: arena_main replay | gen SEED PLAYERS | serve SETUP PORT WORKERS JOURNAL\n";
 
+// Whether the word has these bytes.
 fn is_word(word: &Text, bytes: &[u8]) -> bool
     ensures { IsTrue result ↔ (word.now ≡ bytes.now) }
 {
@@ -30,6 +31,7 @@ fn is_replay(words: &[Text]) -> bool
     words.len() == 1 && is_word(&words[0], b"replay")
 }
 
+// The status of a run that is a replay with this end.
 fn status_of(end: ReplayEnd) -> Status
     ensures { result ≡ status_of end }
 {
@@ -57,15 +59,19 @@ pub fn run<S: Source, K: Sink>(
     ensures usage { ¬ IsReplay words.now → RefusesWords (K.held sink.old) (K.held sink.new) result }
     ensures unread { ¬ IsReplay words.now → source.new ≡ source.old }
 
-    // With it the run is a replay. What the text comes to is the status, unless the run was hindered.
+    // With it the run is a replay, whose end says what was read and written. Whatever the text comes to, that is the
+    // status and what was written, unless a read or a write failed or memory ran out.
     ensures replays { IsReplay words.now → (end : ReplayEndValue) × (result ≡ status_of end)
         × Ends (S.left source.old) (S.left source.new) (K.held sink.old) (K.held sink.new) end }
     ensures complete { IsReplay words.now → IfSome (S.left source.old) (λ bytes.
-        (fate : Fate) → Replayed bytes fate → (result ≡ status_due fate) ⊎ IsHindered result) }
+        (fate : Fate) → Replayed bytes fate
+        → MeetsFate fate (K.held sink.old) (K.held sink.new) result) }
 
     // A read or a write failed only where that object's count of faults rose.
-    ensures read_fault { result ≡ Status.ReadFault → Rose (S.faults source.old) (S.faults source.new) }
-    ensures write_fault { result ≡ Status.WriteFault → Rose (K.faults sink.old) (K.faults sink.new) }
+    ensures read_fault { result ≡ Status.ReadFault
+        → Rose (S.faults source.old) (S.faults source.new) }
+    ensures write_fault { result ≡ Status.WriteFault
+        → Rose (K.faults sink.old) (K.faults sink.new) }
 
     ensures taken { GaveAtMost (S.left source.old) (S.left source.new) 400000001 }
 {

@@ -1,0 +1,15 @@
+pub mod RangeTests
+pub mod Reached
+pub mod Castlings
+pub mod Strikes
+pub mod Legality
+pub mod SpecialMoves
+pub mod KingsKept
+pub mod PawnRanks
+pub mod RightsKept
+pub mod PassedSquare
+pub mod PositionKept
+pub mod MoveLists
+pub mod MoveOrder
+pub mod PassingMoves
+pub mod Standings

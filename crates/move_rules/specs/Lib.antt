@@ -1,0 +1,9 @@
+pub mod Cells
+pub mod Pawns
+pub mod Castling
+pub mod Reach
+pub mod After
+pub mod Legal
+pub mod Lists
+pub mod EnPassant
+pub mod Standing

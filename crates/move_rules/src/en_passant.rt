@@ -1,0 +1,60 @@
+ghost use Rattle.std.specs.Prelude.{◌≡◌, ◌↔◌, ℕ, IsTrue};
+ghost use Rattle.std.specs.List.{list_any};
+ghost use Rattle.board.specs.Moves.{MoveWord, IsMove};
+ghost use Rattle.board.specs.Position.{IsPosition};
+ghost use Rattle.move_rules.specs.After.{is_en_passant};
+ghost use Rattle.move_rules.specs.Legal.{legal};
+ghost use Rattle.move_rules.specs.Lists.{squares, move_of};
+ghost use Rattle.move_rules.specs.EnPassant.{is_legal_en_passant, ep_legal, canonical};
+
+use crate::board_after::is_en_passant;
+use crate::legal::is_legal_in;
+use board::{Move, Parts, Position, Square, without_ep};
+
+// Whether a pawn on `from` may capture en passant on `to`.
+fn captures_from(p: &Parts, to: Square, from: Square) -> bool
+    ensures { result ≡ is_legal_en_passant p.now (move_of from to None) }
+{
+    let m = Move {
+        from,
+        to,
+        promo: None,
+    };
+    is_en_passant(p, m) && is_legal_in(p, m)
+}
+
+fn captures_on(p: &Parts, to: Square) -> bool
+    ensures { let captures = λ (a : ℕ). is_legal_en_passant p.now (move_of a to None)
+        in result ≡ list_any captures squares }
+{
+    (0..64).any(|from| captures_from(p, to, Square::of(from)))
+}
+
+#[tactic(auto, using(crate::proofs::PassingMoves::ep_legal_none, crate::proofs::PassingMoves::ep_legal_some))]
+fn has_legal_capture(p: &Parts) -> bool
+    requires { IsPosition p.now }
+    ensures { result ≡ ep_legal p.now }
+{
+    match p.ep {
+        None => false,
+        Some(to) => captures_on(p, to),
+    }
+}
+
+/// Whether a pawn may legally capture en passant (Laws of Chess, 3.7.3.1, 3.7.3.2).
+#[tactic(auto, using(crate::proofs::PassingMoves::ep_legal_means))]
+pub fn ep_legal(p: &Position) -> bool
+    ensures is { result ≡ ep_legal p.now }
+    ensures means { let p = p.now in IsTrue result
+        ↔ ((m : MoveWord) × IsMove m × IsTrue (legal p m) × IsTrue (is_en_passant p m)) }
+{
+    has_legal_capture(p.as_parts())
+}
+
+/// The same position, with no en passant square where no legal move uses it. Positions count as one that was repeated where
+/// these are the same (Laws of Chess, 9.2.3).
+pub fn canonical(p: &Position) -> Position
+    ensures { result ≡ canonical p.now }
+{
+    if ep_legal(p) { *p } else { without_ep(p) }
+}

@@ -11,7 +11,7 @@ use Rattle.board.specs.declared.piece.Kind.TheVariants.{Pawn, Knight, Bishop, Ro
 use Rattle.board.specs.declared.parts.Parts.{Parts}
 use Rattle.board.specs.Moves.{MoveWord, IsMove, can_be_promo}
 use Rattle.move_rules.specs.Legal.{legal}
-use Rattle.move_rules.specs.Lists.{squares, move_of, moves_between, moves_from, all_moves, legal_moves}
+use Rattle.move_rules.specs.Lists.{SomeMove, squares, move_of, moves_between, moves_from, all_moves, legal_moves}
 
 -- the place of a promotion
 abbrev promo_place : Option Kind → ℕ
@@ -133,8 +133,8 @@ legal_exactly p m = (
 )
 
 -- some listed move passes exactly where some move does
-pub some_move : (f : MoveWord → Bool) → (list_any f all_moves ≡ true) ↔ ((m : MoveWord) × (IsMove m × (f m ≡ true)))
+pub some_move : (f : MoveWord → Bool) → (list_any f all_moves ≡ true) ↔ SomeMove (λ m. f m ≡ true)
 some_move f = (
-  λ h. let t = Any-from_list_any f all_moves h in (t.1, (All-contains IsMove all_moves t.1 all_words (t.0, t.2, t.3), t.4)),
-  λ h. let at = has_move h.0 h.1.0 in list_any_at f all_moves at.0 h.0 at.1 (ap f at.2 ∙ h.1.1),
+  λ h. let t = Any-from_list_any f all_moves h in (t.1, All-contains IsMove all_moves t.1 all_words (t.0, t.2, t.3), t.4),
+  λ t. let at = has_move t.0 t.1 in list_any_at f all_moves at.0 t.0 at.1 (ap f at.2 ∙ t.2),
 )

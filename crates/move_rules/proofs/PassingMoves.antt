@@ -13,7 +13,7 @@ use Rattle.board.specs.Position.{IsPosition}
 use Rattle.move_rules.specs.Pawns.{is_ep, last_rank}
 use Rattle.move_rules.specs.After.{is_pawn_move, is_en_passant}
 use Rattle.move_rules.specs.Legal.{names_promo, is_promotion, legal}
-use Rattle.move_rules.specs.Lists.{move_of, all_moves}
+use Rattle.move_rules.specs.Lists.{SomeMove, move_of, all_moves}
 use Rattle.move_rules.specs.EnPassant.{is_legal_en_passant, ep_legal}
 use Rattle.move_rules.proofs.RangeTests.{any_at}
 use Rattle.move_rules.proofs.MoveOrder.{some_move}
@@ -76,13 +76,13 @@ ep_legal_some p e position at =
     same_truth (list_any (is_legal_en_passant p) all_moves) (captures_on p e)
     (λ h.
     let t = (some_move (is_legal_en_passant p)).0 h in
-    let same = captured_from p e t.0 position at t.1.0 t.1.1 in
-    any_at (λ a. is_legal_en_passant p (move_of a e None)) 64 t.0.from t.1.0.from (subst (λ (m : MoveWord). is_legal_en_passant p m ≡ true) same t.1.1))
+    let same = captured_from p e t.0 position at t.1 t.2 in
+    any_at (λ a. is_legal_en_passant p (move_of a e None)) 64 t.0.from t.1.from (subst (λ (m : MoveWord). is_legal_en_passant p m ≡ true) same t.2))
     (λ h.
     let t = Any-from_list_any (λ a. is_legal_en_passant p (move_of a e None)) (range_with_len 0 64) h in
     let start : t.1 < 64 = in_range t.0 t.1 t.2 t.3 in
     let word : IsMove (move_of t.1 e None) = record { from = start; to = on_board p e position at; promo = refl } in
-    (some_move (is_legal_en_passant p)).1 (move_of t.1 e None, (word, t.4)))
+    (some_move (is_legal_en_passant p)).1 (move_of t.1 e None, word, t.4))
 
 pub ep_legal_none : (p : Parts) → p.ep ≡ None → ep_legal p ≡ false
 unfolding ep_legal
@@ -90,15 +90,15 @@ ep_legal_none p at =
     false_from_ne_true (list_any (is_legal_en_passant p) all_moves)
     (λ h.
     let m = (some_move (is_legal_en_passant p)).0 h in
-    let one = and_parts (is_en_passant p m.0) (legal p m.0) m.1.1 in
+    let one = and_parts (is_en_passant p m.0) (legal p m.0) m.2 in
     let two = and_parts (is_pawn_move p m.0 && is_ep m.0.to p.ep) (not (file_of m.0.from == file_of m.0.to)) one.0 in
     let here = (and_parts (is_pawn_move p m.0) (is_ep m.0.to p.ep) two.0).1 in
     let nowhere : is_ep m.0.to None ≡ true = subst (λ (e : Option ℕ). is_ep m.0.to e ≡ true) at here in cc)
 
--- the promise in words: a legal en passant capture exists
-pub ep_legal_means : (p : Parts) → (ep_legal p ≡ true) ↔ ((m : MoveWord) × IsMove m × (legal p m ≡ true) × (is_en_passant p m ≡ true))
+-- the promise in words: some move is a legal en passant capture
+pub ep_legal_means : (p : Parts) → (ep_legal p ≡ true) ↔ SomeMove (λ m. (is_en_passant p m ≡ true) × (legal p m ≡ true))
 unfolding ep_legal
 ep_legal_means p = (
-  λ h. let t = (some_move (is_legal_en_passant p)).0 h in let both = and_parts (is_en_passant p t.0) (legal p t.0) t.1.1 in (t.0, t.1.0, both.1, both.0),
-  λ t. (some_move (is_legal_en_passant p)).1 (t.0, (t.1, and_from _ _ t.3 t.2)),
+  λ h. let t = (some_move (is_legal_en_passant p)).0 h in (t.0, t.1, and_parts (is_en_passant p t.0) (legal p t.0) t.2),
+  λ t. (some_move (is_legal_en_passant p)).1 (t.0, t.1, and_from _ _ t.2.0 t.2.1),
 )

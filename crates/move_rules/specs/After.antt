@@ -48,7 +48,7 @@ passed_pawn m = 8 * rank_of m.from + file_of m.to
 abbrev pub rook_moved_cells : List (Option Piece) → ℕ → ℕ → List (Option Piece)
 rook_moved_cells cells a b = slice_set (slice_set cells a None) b (piece_on cells a)
 
--- in castling the rook towards which the king goes comes to the square that the king crossed
+-- in castling the rook towards which the king goes comes to his other side
 abbrev pub castled_cells : Parts → MoveWord → List (Option Piece)
 castled_cells p m =
     let h = home p.turn in

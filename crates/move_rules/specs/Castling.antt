@@ -1,5 +1,5 @@
--- Castling: king and rook have not moved, nothing stands between them, and no square that the king leaves, crosses or
--- reaches is attacked.
+-- Castling: king and rook have not moved, nothing stands between them, and the king starts, passes and ends on squares that
+-- the other side does not attack.
 use Rattle.std.specs.Prelude.{ℕ, ◌+◌, ◌==◌, Bool, ◌&&◌, ◌||◌, not, List, Option}
 use Rattle.std.specs.List.{list_all, range_with_len}
 use Rattle.board.specs.declared.piece.Colour.{Colour}
@@ -30,7 +30,7 @@ all_empty cells s n = list_all (is_empty cells) (range_with_len s n)
 abbrev pub all_safe : List (Option Piece) → Colour → ℕ → ℕ → Bool
 all_safe cells c s n = list_all (λ k. not (attacked cells k (other c))) (range_with_len s n)
 
--- the king goes from the e-file to the g-file: the two squares beside him are empty, and he passes over no attacked square
+-- the king goes from the e-file to the g-file: the two squares beside him are empty, and neither they nor his own are attacked
 abbrev pub castles_short : Parts → ℕ → ℕ → Bool
 castles_short p a b =
     let h = home p.turn in
@@ -40,7 +40,8 @@ castles_short p a b =
     && all_empty p.cells (h + 5) 2
     && all_safe p.cells p.turn (h + 4) 3
 
--- the king goes from the e-file to the c-file: the three squares beside him are empty, and he passes over no attacked square
+-- the king goes from the e-file to the c-file: the three squares beside him are empty, and neither the two that he goes over
+-- nor his own are attacked
 abbrev pub castles_long : Parts → ℕ → ℕ → Bool
 castles_long p a b =
     let h = home p.turn in

@@ -4,8 +4,12 @@ use Rattle.std.specs.List.{range_with_len, flat_map, list_any}
 use Rattle.board.specs.declared.piece.Kind.{Kind}
 use Rattle.board.specs.declared.piece.Kind.TheVariants.{Knight, Bishop, Rook, Queen}
 use Rattle.board.specs.declared.parts.Parts.{Parts}
-use Rattle.board.specs.Moves.{MoveWord}
+use Rattle.board.specs.Moves.{MoveWord, IsMove}
 use Rattle.move_rules.specs.Legal.{legal}
+
+-- it holds of some move
+abbrev pub SomeMove : (MoveWord → Type 0) → Type 0
+SomeMove P = (m : MoveWord) × IsMove m × P m
 
 -- the squares, from a1 along each rank to h8
 abbrev pub squares : List ℕ

@@ -2,7 +2,6 @@ ghost use Rattle.std.specs.Prelude.{◌≡◌, ◌<◌};
 ghost use Rattle.move_rules.specs.After.{touches, right_after, rights_after, ep_after, next_count, half_after, number_after, after};
 
 use crate::board_after::{cells_after, is_pawn_move};
-use crate::castling::home_of;
 use crate::cells::is_empty;
 use crate::pawns::halfway_to;
 use board::{Colour, Move, Parts, Rights, Square};
@@ -17,7 +16,7 @@ fn right_after(m: Move, colour: Colour, file: u8, right: bool) -> bool
     requires { file < 8 }
     ensures { result ≡ right_after m colour file right }
 {
-    let home = home_of(colour);
+    let home = colour.home().index();
     right && !touches(m, home + 4) && !touches(m, home + file)
 }
 

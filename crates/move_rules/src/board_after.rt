@@ -1,7 +1,6 @@
 ghost use Rattle.std.specs.Prelude.{◌≡◌, slice_set};
 ghost use Rattle.move_rules.specs.After.{is_pawn_move, is_en_passant, is_castling, arriving_cell, moved_cells, passed_pawn, rook_moved_cells, castled_cells, cells_after};
 
-use crate::castling::home_of;
 use crate::cells::is_kind;
 use crate::pawns::is_ep;
 use board::{Kind, Move, Parts, Piece, Square};
@@ -61,7 +60,7 @@ fn castled_cells(p: &Parts, m: Move) -> [Option<Piece>; 64]
     ensures { result ≡ castled_cells p.now m }
 {
     let cells = moved_cells(p, m);
-    let home = home_of(p.turn);
+    let home = p.turn.home().index();
     if m.from.index() < m.to.index() {
         rook_moved_cells(cells, Square::of(home + 7), Square::of(home + 5))
     } else {
@@ -78,8 +77,8 @@ fn en_passant_cells(p: &Parts, m: Move) -> [Option<Piece>; 64]
     cells
 }
 
-/// The board after a move: a captured piece is off it (Laws of Chess, 3.1.1 and 3.7.3.1), a promoted pawn is what it has
-/// become (3.7.3.3 to 3.7.3.5), and in castling the rook stands on the square that the king crossed (3.8.2).
+/// The board after a move: a captured piece is off it (FIDE Laws of Chess, Articles 3.1.1 and 3.7.3.1), a promoted pawn is
+/// what it has become (3.7.3.3 to 3.7.3.5), and in castling the rook has come to the king's other side (3.8.2).
 #[tactic(auto, unfolding(crate::specs::After::cells_after))]
 pub(crate) fn cells_after(p: &Parts, m: Move) -> [Option<Piece>; 64]
     ensures { result ≡ cells_after p.now m }

@@ -1,20 +1,8 @@
 ghost use Rattle.std.specs.Prelude.{◌≡◌, ◌+◌, ◌≤◌};
-ghost use Rattle.board.specs.Position.{home};
 ghost use Rattle.move_rules.specs.Castling.{short_right, long_right, all_empty, all_safe, castles_short, castles_long, castles};
 
 use crate::cells::is_empty;
 use board::{Colour, Parts, Rights, Square};
-
-/// The number of the a-file square of a side's first rank.
-pub(crate) fn home_of(colour: Colour) -> u8
-    ensures is { result ≡ home colour }
-    ensures low { result ≤ 56 }
-{
-    match colour {
-        Colour::White => 0,
-        Colour::Black => 56,
-    }
-}
 
 fn short_right_of(colour: Colour, rights: Rights) -> bool
     ensures { result ≡ short_right colour rights }
@@ -52,7 +40,7 @@ fn are_safe(p: &Parts, s: u8, n: u8) -> bool
 fn castles_short(p: &Parts, a: Square, b: Square) -> bool
     ensures { result ≡ castles_short p.now a b }
 {
-    let home = home_of(p.turn);
+    let home = p.turn.home().index();
     short_right_of(p.turn, p.rights)
         && a.index() == home + 4
         && b.index() == home + 6
@@ -63,7 +51,7 @@ fn castles_short(p: &Parts, a: Square, b: Square) -> bool
 fn castles_long(p: &Parts, a: Square, b: Square) -> bool
     ensures { result ≡ castles_long p.now a b }
 {
-    let home = home_of(p.turn);
+    let home = p.turn.home().index();
     long_right_of(p.turn, p.rights)
         && a.index() == home + 4
         && b.index() == home + 2
@@ -72,7 +60,7 @@ fn castles_long(p: &Parts, a: Square, b: Square) -> bool
 }
 
 /// Whether the king of the side to move castles from `a` to `b`: neither he nor that rook has moved, nothing stands between
-/// them, and he is not in check, crosses no attacked square and comes to none (Laws of Chess, 3.8.2).
+/// them, and he is not in check, crosses no attacked square and comes to none (FIDE Laws of Chess, Article 3.8.2).
 pub(crate) fn castles(p: &Parts, a: Square, b: Square) -> bool
     ensures { result ≡ castles p.now a b }
 {

@@ -1,10 +1,9 @@
 ghost use Rattle.std.specs.Prelude.{◌≡◌, ◌↔◌, ℕ, IsTrue};
 ghost use Rattle.std.specs.List.{list_any};
-ghost use Rattle.board.specs.Moves.{MoveWord, IsMove};
 ghost use Rattle.board.specs.Position.{IsPosition};
 ghost use Rattle.move_rules.specs.After.{is_en_passant};
 ghost use Rattle.move_rules.specs.Legal.{legal};
-ghost use Rattle.move_rules.specs.Lists.{squares, move_of};
+ghost use Rattle.move_rules.specs.Lists.{SomeMove, squares, move_of};
 ghost use Rattle.move_rules.specs.EnPassant.{is_legal_en_passant, ep_legal, canonical};
 
 use crate::board_after::is_en_passant;
@@ -41,18 +40,18 @@ fn has_legal_capture(p: &Parts) -> bool
     }
 }
 
-/// Whether a pawn may legally capture en passant (Laws of Chess, 3.7.3.1, 3.7.3.2).
+/// Whether a pawn may legally capture en passant (FIDE Laws of Chess, Articles 3.7.3.1 and 3.7.3.2).
 #[tactic(auto, using(crate::proofs::PassingMoves::ep_legal_means))]
 pub fn ep_legal(p: &Position) -> bool
     ensures is { result ≡ ep_legal p.now }
-    ensures means { let p = p.now in IsTrue result
-        ↔ ((m : MoveWord) × IsMove m × IsTrue (legal p m) × IsTrue (is_en_passant p m)) }
+    ensures means { IsTrue result
+        ↔ SomeMove (λ m. IsTrue (is_en_passant p.now m) × IsTrue (legal p.now m)) }
 {
     has_legal_capture(p.as_parts())
 }
 
 /// The same position, with no en passant square where no legal move uses it. Positions count as one that was repeated where
-/// these are the same (Laws of Chess, 9.2.3).
+/// these are the same (FIDE Laws of Chess, Article 9.2.3).
 pub fn canonical(p: &Position) -> Position
     ensures { result ≡ canonical p.now }
 {

@@ -51,8 +51,8 @@ pub(crate) fn is_legal_in(p: &Parts, m: Move) -> bool
     reaches(p, m.from, m.to) && is_legal_reached(p, m)
 }
 
-/// Whether the move is legal in the position: the piece goes there by its way of moving (Laws of Chess, 3.1 to 3.8), a
-/// pawn names what it becomes exactly where it comes to its last rank (3.7.3.3), and the own king is not attacked
+/// Whether the move is legal in the position: the piece goes there by its way of moving (FIDE Laws of Chess, Articles 3.1 to
+/// 3.8), a pawn names what it becomes exactly where it comes to its last rank (3.7.3.3), and the own king is not attacked
 /// afterwards (3.9.2).
 pub fn is_legal(p: &Position, m: Move) -> bool
     ensures { result ≡ legal p.now m }

@@ -73,7 +73,7 @@ fn captures(p: &Parts, a: Square, b: Square) -> bool
 }
 
 /// Whether a pawn of the side to move goes from `a` to `b`: one square ahead, two from where it started, or diagonally
-/// where it captures, en passant too (Laws of Chess, 3.7.1 to 3.7.3.2).
+/// where it captures, en passant too (FIDE Laws of Chess, Articles 3.7.1 to 3.7.3.2).
 pub(crate) fn pawn_reaches(p: &Parts, a: Square, b: Square) -> bool
     ensures { result ≡ pawn_reaches p.now a b }
 {

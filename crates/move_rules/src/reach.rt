@@ -28,7 +28,7 @@ fn kind_reaches(p: &Parts, kind: Kind, a: Square, b: Square) -> bool
     }
 }
 
-/// Whether a piece of the side to move stands on `a` and goes to `b` by its way of moving (Laws of Chess, 3.1 to 3.8).
+/// Whether a piece of the side to move stands on `a` and goes to `b` by its way of moving (FIDE Laws of Chess, Articles 3.1 to 3.8).
 /// What becomes of the own king is another matter.
 #[tactic(auto, unfolding(crate::specs::Reach::reaches))]
 pub(crate) fn reaches(p: &Parts, a: Square, b: Square) -> bool

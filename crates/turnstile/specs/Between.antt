@@ -34,9 +34,9 @@ module _ {V E F : Type 0} (entries : V → List E) (by : E → ℕ) (fixed : V �
     -- the number of a pass, and each that was taken back, is below the count of the passes made, which the maker's seat has
     pub number_made : (i k : ℕ) (v : View E F) → get_elem? s.views i ≡ some v → v.role ≡ Holder k → k < made
     pub made_is : (i m : ℕ) (joined : List (ℕ × List E)) (v : View E F) → get_elem? s.views i ≡ some v → v.role ≡ Maker m joined → (m ≡ made) × All (λ p. p.0 < made) joined
-    -- each live seat knows the fixed part and the number of passes
+    -- each live seat knows what never changes: fixed part, and how many passes there are
     pub lock : (i : ℕ) (v : View E F) → get_elem? s.views i ≡ some v → IsLive v.role → v.lock ≡ Some (f, n)
-    -- while the slot is away from home a seat has the turn
+    -- no value is in its place only where somebody has the turn
     pub away : s.homes ≡ none ∷ [] → (i : ℕ) × (v : View E F) × (k : ℕ) × (get_elem? s.views i ≡ some v) × (v.stage ≡ Turn k)
-    -- while the slot is at home, the value is in it
+    -- and whatever is in its place is the value, never an emptied slot
     pub home : (o : Option V) → s.homes ≡ some o ∷ [] → (x : V) × (o ≡ Some x) × AtHome made x

@@ -13,7 +13,7 @@ pub record Lock (F : Type 0) : Type 0 where
 abbrev pub lock_code : {F : Type 0} → Coded F → Coded (Lock F)
 lock_code {F} fixed = code_by (TableId × (F × ℕ)) (coded× table_id_coded (coded× fixed coded_ℕ)) (λ (t : Lock F). (t.id, (t.fixed, t.passes))) (λ p. record { id = p.0; fixed = p.1.0; passes = p.1.1 }) (λ _. refl)
 
--- a pass: its turnstile, its number, the history that it has seen, the length of that history at the end of each of its turns, and whether it has the turn
+-- a pass: its turnstile, its number, the history that it has seen, for each turn that it ended how long that history then was, and whether it has the turn
 pub record PassState (E F : Type 0) : Type 0 where
   pub of : Lock F
   pub number : ℕ
@@ -28,7 +28,7 @@ pass_code {E} {F} entry fixed =
     (λ t. record { of = t.0; number = t.1.0; seen = t.1.1.0; turns = t.1.1.1.0; has_turn = t.1.1.1.1 })
     (λ _. refl)
 
--- a new pass of this number
+-- how the pass of this number begins
 abbrev pub new_pass : {E F : Type 0} → Lock F → ℕ → PassState E F
 new_pass lock i = record { of = lock; number = i; seen = []; turns = []; has_turn = false }
 

@@ -7,7 +7,7 @@ use Rattle.turnstile.specs.declared.view.Role.TheVariants.{Maker, Holder, Spent}
 use Rattle.turnstile.specs.declared.view.Stage.{Stage}
 use Rattle.turnstile.specs.declared.view.Stage.TheVariants.{Idle, Waiting, Turn}
 
--- a seat, as its table knows it: its view, and the slots that are out with it
+-- a seat, as its table knows it: its view, and the slots that it carries
 abbrev pub Mine : Type 0 → Type 0 → Type 0 → Type 0
 Mine V E F = Me (Option V) (View E F)
 

@@ -7,7 +7,7 @@ use std::marker::Model;
 use std::snapshot::Snapshot;
 
 /// A right to take turns at one turnstile. Contracts see which turnstile it is of, its number, the history that it has
-/// seen, the length of that history at the end of each of its turns, and whether it has the turn.
+/// seen, for each turn that it ended how long that history then was, and whether it has the turn.
 #[derive(Drop)]
 pub struct Pass<V: Historied> {
     pub(crate) seat: Place<V>,

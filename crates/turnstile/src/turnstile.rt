@@ -49,8 +49,8 @@ impl<V: Historied> Model for Turnstile<V> {
 }
 
 impl<V: Historied> Turnstile<V> {
-    /// A turnstile round the value, and its passes, numbered from 0 in the order of the list. Where there is no memory,
-    /// the value is given up.
+    /// A turnstile round the value, and its passes: the first of the list has the number 0, and so on. The answer `Err` is
+    /// for want of memory alone, and the value is then dropped.
     pub fn new(
         alloc: Global,
         value: V,
@@ -88,7 +88,7 @@ impl<V: Historied> Turnstile<V> {
         Ok((Turnstile { table, maker }, list))
     }
 
-    /// Waits for the pass's turn, and takes the value out.
+    /// Takes a ticket, waits until it is served, and hands out the value, which nobody else has until `leave`.
     pub fn enter<R: Wait>(&self, rt: &R, pass: &mut Pass<V>) -> V
         requires of { pass.old.of ≡ self.now }
         requires outside { pass.old.has_turn ≡ false }
@@ -127,7 +127,7 @@ impl<V: Historied> Turnstile<V> {
         }
     }
 
-    /// Puts the value back and ends the turn. It does not wait.
+    /// Ends the turn: the value goes back under the lock, with what the pass added, for the next ticket. Never waits.
     pub fn leave(&self, pass: &mut Pass<V>, value: V)
         requires of { pass.old.of ≡ self.now }
         requires turn { pass.old.has_turn ≡ true }
@@ -154,7 +154,7 @@ impl<V: Historied> Turnstile<V> {
         }
     }
 
-    /// The value, once all passes are back.
+    /// Takes the lock apart, once all passes are back, and gives the value.
     pub fn close(self, passes: Vec<Pass<V>>) -> V
         requires all { length passes.items ≡ self.passes }
         requires of { All (λ p. p.of ≡ self) passes.items }

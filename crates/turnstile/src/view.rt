@@ -23,17 +23,17 @@ pub enum Stage {
 
 /// What a seat knows.
 pub struct View<E, F> {
-    /// The fixed part and the number of passes, unless the seat is spent.
+    /// What never changes, unless the seat is spent: the fixed part, and how many passes there are.
     pub lock: Option<(F, u64)>,
     pub role: Role<E>,
     pub stage: Stage,
     /// The history that it has seen.
     pub seen: LinkedList<E>,
-    /// How much of it the seat had seen at the end of each of its turns.
+    /// For each turn that it ended, how many entries it had seen by then.
     pub turns: LinkedList<u64>,
 }
 
-/// What the table is told once: the value at the start, and the number of passes.
+/// What the table is told when it is made: the first value, and how many passes there will be.
 pub struct Start<V> {
     pub value: Snapshot<V>,
     pub passes: u64,

@@ -1,0 +1,4 @@
+pub mod Appearance
+pub mod Material
+pub mod Packing
+pub mod Laws

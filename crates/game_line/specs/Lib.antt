@@ -1,0 +1,5 @@
+pub mod Line
+pub mod Repetition
+pub mod Quiet
+pub mod Kept
+pub mod Laws

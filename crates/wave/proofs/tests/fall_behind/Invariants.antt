@@ -1,0 +1,7 @@
+use Rattle.std.specs.Prelude.{AllPairs}
+use Rattle.std.proofs.Common.{◌<◌, take}
+use Rattle.pair_cost.specs.declared.candidate.Candidate.{Candidate}
+use Rattle.wave.proofs.tests.fall_behind.Given as goal
+
+abbrev pub invariant-loop-place : goal.invariant-loop-place
+invariant-loop-place l = AllPairs (λ (a b : Candidate). a.rank < b.rank) (take l.place l.rows)

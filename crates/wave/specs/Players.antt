@@ -1,0 +1,21 @@
+-- Who stands in a plan.
+use Rattle.std.specs.Prelude.{ℕ, ◌≢◌, List, map, Contains}
+use Rattle.pair_cost.specs.declared.candidate.Candidate.{Candidate}
+use Rattle.pair_cost.specs.declared.candidate.Pair.{Pair}
+
+-- a row is of the player with this number
+abbrev pub HasPlayer : List Candidate → ℕ → Type 0
+HasPlayer rows player = Contains (map (λ (row : Candidate). row.player) rows) player
+
+-- both players of a pair are players of rows, and they are two
+pub record IsOfRows (rows : List Candidate) (pair : Pair) : Type 0 where
+  pub white : HasPlayer rows pair.white
+  pub black : HasPlayer rows pair.black
+  pub two : pair.white ≢ pair.black
+
+-- two pairs have no player in common
+pub record IsApart (a b : Pair) : Type 0 where
+  pub whites : a.white ≢ b.white
+  pub white_black : a.white ≢ b.black
+  pub black_white : a.black ≢ b.white
+  pub blacks : a.black ≢ b.black

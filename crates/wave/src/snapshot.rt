@@ -1,0 +1,26 @@
+use conn::List;
+use pair_cost::{Candidate, Pair};
+
+/// What a wave is planned from: the idle players after the first entries of a journal.
+#[derive(Debug, Drop)]
+pub struct Snapshot {
+    /// How many entries it is of.
+    pub n: u64,
+    /// When it was taken, in milliseconds.
+    pub stamp: u64,
+    /// When the last wave before it was, if there was one.
+    pub last_wave: Option<u64>,
+    /// How many games run.
+    pub running: u32,
+    /// The idle players in rank order.
+    pub rows: List<Candidate>,
+}
+
+/// The pairs that a wave is to start.
+#[derive(Debug, Drop)]
+pub struct Plan {
+    /// How many entries its snapshot is of.
+    pub n: u64,
+    /// The pairs, group by group, and within a group by the better ranked player.
+    pub pairs: List<Pair>,
+}

@@ -1,8 +1,9 @@
 pub mod Places
 pub mod Orders
 pub mod Totals
-pub mod Going
-pub mod Choices
-pub mod Pairings
 pub mod Words
 pub mod LeastList
+pub mod Taking
+pub mod Sets
+pub mod Choices
+pub mod Pairings

@@ -1,5 +1,6 @@
 -- What the search through the pairings of a group works with.
-use Rattle.std.specs.Prelude.{◌≡◌, ◌≢◌, ℕ, ◌-◌, ◌/◌, ◌%◌, ◌<◌, ◌≤◌, Bool, ◌&&◌, ◌||◌, ◌==◌, nat_lt, nat_le, IsTrue, IsFalse, if◌then◌else◌, List, length, take, drop, replicate, Option, Some, None, slice_get, slice_index}
+use Rattle.std.specs.Prelude.{◌≡◌, ℕ, ◌+◌, ◌-◌, ◌*◌, ◌/◌, ◌%◌, ◌<◌, ◌≤◌, Bool, ◌&&◌, ◌||◌, ◌==◌, nat_lt, nat_le, IsTrue, IsFalse, if◌then◌else◌, List, length, take, drop, replicate, Option, Some, None, slice_get, slice_index, slice_index_or}
+use Rattle.std.specs.Int.{bit_at}
 use Rattle.pair_cost.specs.declared.candidate.Candidate.{Candidate}
 use Rattle.group_pairing.specs.declared.pairing.Pairing.{Pairing}
 use Rattle.group_pairing.specs.Lists.{may_pair, is_partner_list}
@@ -29,15 +30,24 @@ pub record IsPairing (rows : List Candidate) (max : ℕ) (pairing : Pairing) : T
 abbrev pub leads : Pairing → Pairing → Bool
 leads a b = nat_lt a.alone b.alone || (a.alone == b.alone && nat_le a.total b.total)
 
--- a partner list that is as another one at each place before a given one and at each place that has a partner there
-pub record GoesOn (rows : List Candidate) (base : List ℕ) (from : ℕ) (to : List ℕ) : Type 0 where
+-- a partner list that has nobody at the places outside a set; place i is in the set where bit i of the number is 1
+pub record IsWithin (rows : List Candidate) (places : ℕ) (to : List ℕ) : Type 0 where
   pub list : IsTrue (is_partner_list rows to)
-  pub before : (i : ℕ) → i < length rows → i < from → slice_index to i ≡ slice_index base i
-  pub paired : (i : ℕ) → i < length rows → slice_index base i ≢ 14 → slice_index to i ≡ slice_index base i
+  pub outside : (i : ℕ) → i < length rows → bit_at places i ≡ 0 → slice_index to i ≡ 14
 
--- of the lists that go on so, with at least this item at the place, it is the one of least key
-pub record IsLeastOn (rows : List Candidate) (max : ℕ) (base : List ℕ) (from low : ℕ) (to : List ℕ) : Type 0 where
-  pub on : GoesOn rows base from to
-  pub above : low ≤ slice_index to from
-  pub least : (other : List ℕ) → GoesOn rows base from other → low ≤ slice_index other from
+-- of the lists within the set that have at least this item at a place, it is the one of least key
+pub record IsLeastIn (rows : List Candidate) (max places place low : ℕ) (to : List ℕ) : Type 0 where
+  pub within : IsWithin rows places to
+  pub above : low ≤ slice_index to place
+  pub least : (other : List ℕ) → IsWithin rows places other → low ≤ slice_index other place
       → IsFalse (is_smaller (key rows max other) (key rows max to))
+
+-- the pairing is the least within the set, and costs no more than its pairs can
+pub record IsBest (rows : List Candidate) (max places place low : ℕ) (best : Pairing) : Type 0 where
+  pub pairing : IsPairing rows max best
+  pub least : IsLeastIn rows max places place low (items rows best)
+  pub cheap : best.total + 22002000 * best.alone ≤ 22002000 * 14
+
+-- the first n rows of a table hold the least pairing within each set
+abbrev pub HoldsBest : List Candidate → ℕ → List Pairing → ℕ → Type 0
+HoldsBest rows max table n = (m : ℕ) (d : Pairing) → m < n → IsBest rows max m 0 0 (slice_index_or table m d)

@@ -9,6 +9,7 @@ mod laws;
 mod offers;
 mod pairing;
 mod partners;
+mod place_set;
 mod search;
 mod solver;
 

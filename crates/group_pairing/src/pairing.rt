@@ -1,13 +1,13 @@
-ghost use Rattle.std.specs.Prelude.{◌≡◌, ◌+◌, ◌-◌, ◌^◌, ◌<◌, ◌≤◌, slice_set};
+ghost use Rattle.std.specs.Prelude.{◌≡◌, ◌+◌, ◌-◌, ◌^◌, ◌<◌, ◌≤◌, slice_set, replicate};
 
 /// Nobody, in place of a partner's place.
-pub(crate) const NOBODY: u8 = 14;
+const NOBODY: u8 = 14;
 
 /// A partner list with what it is compared by: how many places have nobody, and what its pairs cost.
-#[derive(Clone, Copy)]
+#[derive(Debug, Clone, Copy)]
 pub(crate) struct Pairing {
-    pub(crate) alone: u8,
     pub(crate) total: u64,
+    pub(crate) alone: u8,
     pub(crate) to: [u8; 14],
 }
 
@@ -27,6 +27,19 @@ pub(crate) fn with_pair(base: Pairing, place: usize, partner: usize, price: u64)
     Pairing {
         alone: base.alone - 2,
         total: base.total + price,
+        to,
+    }
+}
+
+// The pairing of so many places in which nobody has a partner.
+pub(crate) fn nobody_paired(places: usize) -> Pairing
+    requires { places ≤ 14 }
+    ensures { result ≡ record { alone = places; total = 0; to = replicate 14 14 } }
+{
+    let to = [NOBODY; 14];
+    Pairing {
+        alone: places as u8,
+        total: 0,
         to,
     }
 }

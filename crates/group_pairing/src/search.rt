@@ -1,70 +1,105 @@
-ghost use Rattle.std.specs.Prelude.{◌≡◌, ◌*◌, ◌+◌, ◌≤◌, ◌<◌, length, slice_index, if◌then◌else◌};
-ghost use Rattle.group_pairing.specs.Search.{HoldsOffers, IsPairing, IsLeastOn, items, leads};
+ghost use Rattle.std.specs.Prelude.{◌≡◌, ◌-◌, ◌^◌, ◌≤◌, ◌<◌, ℕ, length, if◌then◌else◌};
+ghost use Rattle.std.specs.Int.{bit_at};
+ghost use Rattle.group_pairing.specs.Search.{HoldsOffers, HoldsBest, IsBest, leads};
 
 use crate::offers::CELLS;
-use crate::pairing::{NOBODY, Pairing, with_pair};
+use crate::pairing::{Pairing, nobody_paired, with_pair};
+use crate::place_set::{SETS, first_of, has, sets_of, without};
 use pair_cost::Candidate;
 
-// The least of the lists that go on from `base`, whose places before `place` are settled.
-#[cycle(search)]
-pub(crate) fn settle(
+// The least pairing of the group. `best` is where those of its sets of places are kept.
+pub(crate) fn least_pairing(
     rows: &[Candidate],
     max: u32,
-    table: &[Option<u64>],
-    place: usize,
-    base: Pairing,
+    offers: &[Option<u64>],
+    best: &mut [Pairing],
 ) -> Pairing
     requires few { length rows.now ≤ 14 }
-    requires cells { length table.now ≡ CELLS }
-    requires offers { HoldsOffers rows.now max table.now CELLS }
-    requires place { place ≤ length rows.now }
-    requires pairing { IsPairing rows.now max base }
-    requires fits { base.total ≤ 22002000 * place }
-    ensures pairing { IsPairing rows.now max result }
-    ensures least { IsLeastOn rows.now max (items rows.now base) place 0 (items rows.now result) }
+    requires cells { length offers.now ≡ CELLS }
+    requires offers { HoldsOffers rows.now max offers.now CELLS }
+    requires sets { length best.old ≡ SETS }
+    ensures best { IsBest rows.now max (2 ^ length rows.now - 1) 0 0 result }
+    ensures sets { length best.new ≡ SETS }
 {
-    if place == rows.len() {
-        base
-    } else if base.to[place] != NOBODY {
-        settle(rows, max, table, place + 1, base)
-    } else {
-        choose(rows, max, table, place, place + 1, base)
+    fill_best(rows, max, offers, best);
+    let whole = sets_of(rows.len()) - 1;
+    best[whole]
+}
+
+// Writes for each set of places of the group the least pairing within it, from the smaller numbers to the greater.
+fn fill_best(rows: &[Candidate], max: u32, offers: &[Option<u64>], best: &mut [Pairing])
+    requires few { length rows.now ≤ 14 }
+    requires cells { length offers.now ≡ CELLS }
+    requires offers { HoldsOffers rows.now max offers.now CELLS }
+    requires sets { length best.old ≡ SETS }
+    ensures best { HoldsBest rows.now max best.new (2 ^ length rows.now) }
+    ensures sets { length best.new ≡ SETS }
+{
+    for set in 0..sets_of(rows.len()) {
+        let found = best_within(rows, max, offers, best, set);
+        best[set] = found;
     }
 }
 
-// The same at a place that has nobody, of the lists in which its partner's place is `partner` or more.
-#[cycle(search)]
+// The least pairing within a set, from those within the sets before it.
+fn best_within(
+    rows: &[Candidate],
+    max: u32,
+    offers: &[Option<u64>],
+    best: &[Pairing],
+    set: usize,
+) -> Pairing
+    requires few { length rows.now ≤ 14 }
+    requires cells { length offers.now ≡ CELLS }
+    requires offers { HoldsOffers rows.now max offers.now CELLS }
+    requires best { HoldsBest rows.now max best.now set }
+    requires sets { set ≤ length best.now }
+    requires set { set < 2 ^ length rows.now }
+    ensures { IsBest rows.now max set 0 0 result }
+{
+    if set == 0 {
+        nobody_paired(rows.len())
+    } else {
+        let place = first_of(set);
+        choose(rows, max, offers, best, set, place, place + 1)
+    }
+}
+
+// The same of the pairings in which the first place of the set has a partner's place of `partner` or more.
 fn choose(
     rows: &[Candidate],
     max: u32,
-    table: &[Option<u64>],
+    offers: &[Option<u64>],
+    best: &[Pairing],
+    set: usize,
     place: usize,
     partner: usize,
-    base: Pairing,
 ) -> Pairing
     requires few { length rows.now ≤ 14 }
-    requires cells { length table.now ≡ CELLS }
-    requires offers { HoldsOffers rows.now max table.now CELLS }
+    requires cells { length offers.now ≡ CELLS }
+    requires offers { HoldsOffers rows.now max offers.now CELLS }
+    requires best { HoldsBest rows.now max best.now set }
+    requires sets { set ≤ length best.now }
+    requires has { bit_at set place ≡ 1 }
+    requires below { (i : ℕ) → i < place → bit_at set i ≡ 0 }
     requires place { place < partner }
     requires partner { partner ≤ length rows.now }
-    requires pairing { IsPairing rows.now max base }
-    requires fits { base.total ≤ 22002000 * place }
-    requires free { slice_index (items rows.now base) place ≡ 14 }
-    ensures pairing { IsPairing rows.now max result }
-    ensures least { IsLeastOn rows.now max (items rows.now base) place partner (items rows.now result) }
+    ensures { IsBest rows.now max set place partner result }
 {
+    let rest = without(set, place);
     if partner == rows.len() {
-        return settle(rows, max, table, place + 1, base);
+        return best[rest];
     }
-    let later = choose(rows, max, table, place, partner + 1, base);
-    if base.to[partner] != NOBODY {
+    let later = choose(rows, max, offers, best, set, place, partner + 1);
+    if !has(set, partner) {
         return later;
     }
-    match table[14 * place + partner] {
+    match offers[14 * place + partner] {
         None => later,
         Some(price) => {
-            let paired = with_pair(base, place, partner, price);
-            lesser(settle(rows, max, table, place + 1, paired), later)
+            let cut = without(rest, partner);
+            let paired = with_pair(best[cut], place, partner, price);
+            lesser(paired, later)
         }
     }
 }

@@ -1,0 +1,158 @@
+-- The lists within a set of places: with a pair of its places taken out, and with its first place left alone.
+use Rattle.std.proofs.Common.{◌≡◌, ◌≢◌, ℕ, ◌+◌, ◌-◌, ◌^◌, ◌<◌, ◌≤◌, inl, inr, Bool, true, false, IsTrue, List, length, slice_index, replicate, sym, ◌∙◌, ap, subst, arith, ext_get_or, eqb-true, ◌==◌}
+use Rattle.std.specs.Int.{bit_at}
+use Rattle.std.proofs.lemmas.Bool.{cases_eq, cases_lt, eqb-false}
+use Rattle.std.proofs.lemmas.Nat.Bits.{bit_at-zero, bit_at_ones, bit_at-lt, bit_at_above}
+use Rattle.std.proofs.lemmas.List.{length-replicate, get_or-replicate}
+use Rattle.pair_cost.specs.declared.candidate.Candidate.{Candidate}
+use Rattle.group_pairing.specs.Lists.{may_pair, is_partner_list}
+use Rattle.group_pairing.specs.Search.{IsWithin}
+use Rattle.group_pairing.proofs.Places.{paired_from}
+use Rattle.group_pairing.proofs.Taking.{Two, Free, paired, unpaired, at_first, at_second, at_other, paired_is_list, unpaired_is_list}
+
+-- a set of places and its first one
+pub record First (rows : List Candidate) (s p : ℕ) : Type 0 where
+  pub few : length rows ≤ 14
+  pub inside : p < length rows
+  pub has : bit_at s p ≡ 1
+  pub below : (i : ℕ) → i < p → bit_at s i ≡ 0
+
+-- the set without its first place
+pub record Rest (rows : List Candidate) (s p r : ℕ) : Type 0 where
+  pub gone : bit_at r p ≡ 0
+  pub others : (i : ℕ) → i < length rows → i ≢ p → bit_at r i ≡ bit_at s i
+
+-- another place of the set, and the set without the two
+pub record Cut (rows : List Candidate) (s p q r : ℕ) : Type 0 where
+  pub up : p < q
+  pub inside : q < length rows
+  pub has : bit_at s q ≡ 1
+  pub first_gone : bit_at r p ≡ 0
+  pub second_gone : bit_at r q ≡ 0
+  pub others : (i : ℕ) → i < length rows → i ≢ p → i ≢ q → bit_at r i ≡ bit_at s i
+
+pub two_in : (rows : List Candidate) (s p q r : ℕ) (to : List ℕ) → First rows s p → Cut rows s p q r → IsTrue (is_partner_list rows to) → Two rows to p q
+two_in rows s p q r to f c list = record { few = f.few; size = (paired_from rows to list).size; up = c.up; inside = c.inside }
+
+pub free_in : (rows : List Candidate) (s p q r : ℕ) (to : List ℕ) → First rows s p → Cut rows s p q r → IsWithin rows r to → Free rows to p q
+free_in rows s p q r to f c w = record {
+  two = two_in rows s p q r to f c w.list;
+  first = w.outside p f.inside c.first_gone;
+  second = w.outside q c.inside c.second_gone;
+}
+
+-- the first place has nobody or a later one
+pub first_partner : (rows : List Candidate) (s p : ℕ) (to : List ℕ) → First rows s p → IsWithin rows s to → p + 1 ≤ slice_index to p
+first_partner rows s p to f w =
+    elim ((paired_from rows to w.list).each p f.inside) [
+      | inl nobody ↦ omega (arith, nobody, f.inside, f.few)
+      | inr met ↦ elim (cases_lt p (slice_index to p)) [
+        | inl up ↦ omega (arith, up)
+        | inr down ↦
+            let before : slice_index to p < p = let differ = met.other in omega (arith, down, differ) in
+            let nobody = w.outside (slice_index to p) met.inside (f.below (slice_index to p) before) in
+            absurd (omega (arith, nobody, met.back, f.inside, f.few))
+      ]
+    ]
+
+-- the lists of a set agree before its first place
+pub same_before : (rows : List Candidate) (s p : ℕ) (a b : List ℕ) → First rows s p → IsWithin rows s a → IsWithin rows s b → (j : ℕ) → j < p → slice_index a j ≡ slice_index b j
+same_before rows s p a b f wa wb j below =
+    wa.outside j (omega (arith, below, f.inside)) (f.below j below) ∙ sym (wb.outside j (omega (arith, below, f.inside)) (f.below j below))
+
+-- a list of the smaller set, with the pair put in
+pub within_paired : (rows : List Candidate) (s p q r : ℕ) (to : List ℕ) → First rows s p → Cut rows s p q r → may_pair rows p q ≡ true → IsWithin rows r to → IsWithin rows s (paired to p q)
+within_paired rows s p q r to f c may w = record {
+  list = paired_is_list rows to p q (free_in rows s p q r to f c w) may w.list;
+  outside = λ i inside none.
+      let not_p : i ≢ p = λ e. let one = subst (λ k. bit_at s k ≡ 1) (sym e) f.has in omega (arith, one, none) in
+      let not_q : i ≢ q = λ e. let one = subst (λ k. bit_at s k ≡ 1) (sym e) c.has in omega (arith, one, none) in
+      at_other to p q q p i not_p not_q ∙ w.outside i inside (c.others i inside not_p not_q ∙ none);
+}
+
+-- a list of the set, with the pair taken out
+pub within_unpaired : (rows : List Candidate) (s p q r : ℕ) (to : List ℕ) → First rows s p → Cut rows s p q r → IsWithin rows s to → slice_index to p ≡ q → IsWithin rows r (unpaired to p q)
+within_unpaired rows s p q r to f c w at =
+    let two = two_in rows s p q r to f c w.list in
+    record {
+      list = unpaired_is_list rows to p q two w.list at;
+      outside = λ i inside none. elim (cases_eq i p) [
+        | inl is_p ↦ ap (slice_index (unpaired to p q)) is_p ∙ at_first rows to p q 14 14 two
+        | inr not_p ↦ elim (cases_eq i q) [
+          | inl is_q ↦ ap (slice_index (unpaired to p q)) is_q ∙ at_second rows to p q 14 14 two
+          | inr not_q ↦ at_other to p q 14 14 i not_p not_q ∙ w.outside i inside (sym (c.others i inside not_p not_q) ∙ none)
+        ]
+      ];
+    }
+
+-- a list in which the first place has nobody is one of the set without it, and the other way round
+pub within_rest : (rows : List Candidate) (s p r : ℕ) (to : List ℕ) → Rest rows s p r → IsWithin rows s to → slice_index to p ≡ 14 → IsWithin rows r to
+within_rest rows s p r to c w at = record {
+  list = w.list;
+  outside = λ i inside none. elim (cases_eq i p) [
+    | inl is_p ↦ ap (slice_index to) is_p ∙ at
+    | inr not_p ↦ w.outside i inside (sym (c.others i inside not_p) ∙ none)
+  ];
+}
+
+pub within_more : (rows : List Candidate) (s p r : ℕ) (to : List ℕ) → Rest rows s p r → IsWithin rows r to → IsWithin rows s to
+within_more rows s p r to c w = record {
+  list = w.list;
+  outside = λ i inside none. elim (cases_eq i p) [
+    | inl is_p ↦ w.outside i inside (ap (bit_at r) is_p ∙ c.gone)
+    | inr not_p ↦ w.outside i inside (c.others i inside not_p ∙ none)
+  ];
+}
+
+-- within the empty set nobody has a partner, and within the whole one each partner list lies
+
+pub within_none : (rows : List Candidate) (to : List ℕ) → IsWithin rows 0 to → to ≡ replicate (length rows) 14
+within_none rows to w =
+    let size = (paired_from rows to w.list).size in
+    ext_get_or 0 to (replicate (length rows) 14) (size ∙ sym (length-replicate (length rows) 14))
+    (λ i inside.
+    let within : i < length rows = omega (arith, inside, size) in
+    w.outside i within (bit_at-zero i) ∙ sym (get_or-replicate (length rows) i 14 0 within))
+
+pub within_all : (rows : List Candidate) (to : List ℕ) → IsTrue (is_partner_list rows to) → IsWithin rows (2 ^ length rows - 1) to
+within_all rows to list = record {
+  list = list;
+  outside = λ i inside none. let one = bit_at_ones (length rows) i inside in absurd (omega (arith, one, none));
+}
+
+-- what a test of a place tells
+
+pub off : (s i : ℕ) (t : Bool) → t ≡ (bit_at s i == 1) → t ≡ false → bit_at s i ≡ 0
+off s i t is no_ =
+    let few = bit_at-lt s i in
+    let not_one = eqb-false (bit_at s i) 1 (sym is ∙ no_) in
+    omega (arith, few, not_one)
+
+pub on : (s i : ℕ) (t : Bool) → t ≡ (bit_at s i == 1) → t ≡ true → bit_at s i ≡ 1
+on s i t is yes_ = eqb-true (bit_at s i) 1 (sym is ∙ yes_)
+
+-- the first place of a set of places of the group is one of the group
+pub first_inside : (rows : List Candidate) (s p : ℕ) → s < 2 ^ length rows → bit_at s p ≡ 1 → p < length rows
+first_inside rows s p below has =
+    elim (cases_lt p (length rows)) [
+      | inl inside ↦ inside
+      | inr past ↦ let none = bit_at_above s (length rows) p below past in absurd (omega (arith, none, has))
+    ]
+
+-- the three from what the calls on sets say
+
+pub first_of_set : (rows : List Candidate) (s p q : ℕ) → length rows ≤ 14 → p < q → q ≤ length rows → bit_at s p ≡ 1 → ((i : ℕ) → i < p → bit_at s i ≡ 0) → First rows s p
+first_of_set rows s p q few up within has below = record { few = few; inside = omega arith; has = has; below = below }
+
+pub rest_of_set : (rows : List Candidate) (s p r : ℕ) → length rows ≤ 14 → bit_at r p ≡ 0 → ((i : ℕ) → i < 14 → i ≢ p → bit_at r i ≡ bit_at s i) → Rest rows s p r
+rest_of_set rows s p r few gone others = record { gone = gone; others = λ i inside differ. others i (omega (arith, inside)) differ }
+
+pub cut_of_set : (rows : List Candidate) (s p q r t : ℕ) → First rows s p → Rest rows s p r → p < q → q < length rows → bit_at s q ≡ 1 → bit_at t q ≡ 0 → ((i : ℕ) → i < 14 → i ≢ q → bit_at t i ≡ bit_at r i) → Cut rows s p q t
+cut_of_set rows s p q r t f c up inside has gone others = record {
+  up = up;
+  inside = inside;
+  has = has;
+  first_gone = others p (omega (arith, f.inside, f.few)) (λ e. omega (arith, e, up)) ∙ c.gone;
+  second_gone = gone;
+  others = λ i within not_p not_q. others i (omega (arith, within, f.few)) not_q ∙ c.others i within not_p;
+}

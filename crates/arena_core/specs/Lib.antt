@@ -1,4 +1,4 @@
 pub mod Answers
 pub mod Held
 pub mod Kept
-pub mod Listing
+pub mod Views

@@ -1,22 +1,29 @@
-ghost use Rattle.std.specs.Prelude.{◌≡◌, ◌≢◌, ◌+◌, ◌≤◌, [], length, slice_get, IfOk, OnErr, Err};
+ghost use Rattle.std.specs.Prelude.{ℕ, ◌≡◌, ◌≢◌, ◌+◌, ◌<◌, ◌≤◌, ◌∷◌, ◌++◌, [], length, slice_get, IfOk, IsOk, OnOk, OnErr, Err, None};
 ghost use Rattle.entries.specs.Ranges.{IsGood};
+ghost use Rattle.history.specs.Answers.{reply_to, answer};
 ghost use Rattle.history.specs.Commands.{IsCommandOf, entry_of};
 ghost use Rattle.history.specs.Legal.{IsLegal, stamp_of, verdict, own_refusal, last_stamp};
-ghost use Rattle.history.specs.Table.{table_order};
-ghost use Rattle.arena_core.specs.Answers.{Answers};
+ghost use Rattle.history.specs.Stands.{seat};
+ghost use Rattle.history.specs.Table.{standings, team_standings};
+ghost use Rattle.history.specs.Views.{arena_view, me_view};
+ghost use Rattle.history.specs.Wishes.{wish};
+ghost use Rattle.arena_core.specs.Answers.{Answers, IsQueryOf, IsSmall};
 ghost use Rattle.arena_core.specs.Held.{past};
+ghost use Rattle.arena_core.specs.Views.{row_of};
 
-use crate::fault::ApplyFault;
-use crate::refusals::{enter_refusal, leave_refusal, or_full};
-use crate::roster::Roster;
-use crate::table::in_table_order;
-use entries::{Entry, Setup, What};
-use history::{Command, Refusal};
+use crate::fault::{ApplyFault, QueryFault};
+use crate::keeping;
+use crate::pages::{all_rows, entries_from, rows_from};
+use crate::refusals::{enter_refusal, leave_refusal, or_full, pause_refusal};
+use crate::views::{me_by, phase};
+use conn::List;
+use entries::{Entry, MAX_STAMP, Setup, What};
+use history::{Answer, ArenaView, Command, MeView, Query, Refusal, Reply, Wish};
+use ranking::{Row, Table};
+use seats::Seats;
 use std::alloc::{AllocError, Global};
 use std::marker::Model;
-
-/// The greatest stamp.
-const MAX_STAMP: u64 = 1_000_000_000;
+use team_battle::{TeamRow, team_table};
 
 /// One arena. Contracts see its setup, its journal and how many entries more the journal has room for. Every arena has a
 /// good setup and a legal journal.
@@ -24,7 +31,8 @@ const MAX_STAMP: u64 = 1_000_000_000;
 pub struct Arena {
     setup: Setup,
     entries: Vec<Entry>,
-    roster: Roster,
+    table: Table,
+    seats: Seats,
 }
 
 impl Model for Arena {
@@ -37,7 +45,7 @@ impl Model for Arena {
 
     ghost view = { λ a. held a.setup a.entries.items (vec_capacity a.entries - vec_len a.entries) };
 
-    ghost invariant = { λ a. IsKept a.setup a.entries.items a.roster };
+    ghost invariant = { λ a. IsKept a.setup a.entries.items a.table a.seats };
 }
 
 impl Arena {
@@ -48,21 +56,38 @@ impl Arena {
         ensures setup { IfOk result (λ arena. arena.setup ≡ setup) }
         ensures empty { IfOk result (λ arena. arena.entries ≡ []) }
     {
-        let roster = Roster::new(alloc, setup.players.items().len())?;
+        let players = setup.players.items().len() as u32;
+        let table = Table::new(alloc, players)?;
+        let seats = Seats::new(alloc, players)?;
         Ok(Arena {
             setup,
             entries: Vec::new(alloc),
-            roster,
+            table,
+            seats,
         })
     }
 
+    /// Makes room in the journal for at least `k` entries more. It fails only for want of memory, never where that room is
+    /// there, and then leaves all as it was.
+    pub fn reserve(&mut self, k: u32) -> Result<(), AllocError>
+        ensures setup { self.new.setup ≡ self.old.setup }
+        ensures entries { self.new.entries ≡ self.old.entries }
+        ensures room { OnOk result (k ≤ self.new.spare) }
+        ensures no_less { self.old.spare ≤ self.new.spare }
+        ensures unchanged { OnErr result (self.new ≡ self.old) }
+        ensures memory { k ≤ self.old.spare → IsOk result }
+    {
+        self.entries.reserve(k as usize)
+    }
+
     /// Adds the one entry of a command that pass `pass` makes at `now`, a moment of the clock in milliseconds; both may be any
-    /// number. The entry's stamp is `now`, raised to the last stamp and cut to 1,000,000,000.
+    /// number. The entry's stamp is `now`, raised to the last stamp and cut to 1,000,000,000. The reply shows the player who
+    /// asked, with that entry behind him.
     ///
     /// `Refused` has the command's first refusal at that stamp: that the arena is closed, then what the player's wish refuses,
     /// then that the journal is full. `OutOfMemory` comes where the command is not refused and there is no memory for its
     /// entry, never where the journal has room for one. Both leave all as it was.
-    pub fn apply(&mut self, pass: u32, now: u64, c: Command) -> Result<(), ApplyFault>
+    pub fn apply(&mut self, pass: u32, now: u64, c: Command) -> Result<Reply, ApplyFault>
         requires { IsCommandOf (length self.old.setup.players) c }
         ensures setup { self.new.setup ≡ self.old.setup }
         ensures answer { Answers self.old.setup self.old.entries pass now c self.new.entries result }
@@ -76,12 +101,44 @@ impl Arena {
         if let Some(refusal) = self.verdict(stamp, c) {
             return Err(ApplyFault::Refused(refusal));
         }
-        if self.entries.reserve(1).is_err() {
+        if self.reserve(1).is_err() {
             return Err(ApplyFault::OutOfMemory);
         }
-        self.roster.obey(c);
-        self.entries.push_reserved(entry_of(stamp, pass, c));
-        Ok(())
+        self.obey(stamp, pass, c);
+        Ok(self.reply(c))
+    }
+
+    /// Answers a question at `now`, a moment of the clock in milliseconds, which is raised and cut as a command's. It adds no
+    /// entry. It fails only for want of memory, which a question about the arena or a player never takes.
+    pub fn query(&self, alloc: Global, now: u64, q: Query) -> Result<Answer, QueryFault>
+        requires { IsQueryOf (length self.now.setup.players) q }
+        ensures answer { IfOk result (λ given. given ≡ answer self.now.setup (past self.now) (stamp_of (past self.now) now) q) }
+        ensures memory { IsSmall q → IsOk result }
+    {
+        match q {
+            Query::Arena => Ok(Answer::Arena(self.view(self.stamp(now)))),
+            Query::Standing(k) => Ok(self.standing(alloc, k)?),
+            Query::Teams => Ok(Answer::Teams(List::of(self.teams(alloc)?))),
+            Query::Me(p) => Ok(Answer::Me(self.me(p))),
+            Query::Journal(k) => Ok(self.journal(alloc, k)?),
+        }
+    }
+
+    /// The table: a row for each player who ever entered, by points, performance and rating, the higher first, and then by
+    /// first enter entry. It fails only for want of memory.
+    pub fn rows(&self, alloc: Global) -> Result<Vec<Row>, AllocError>
+        ensures { IfOk result (λ rows. rows.items ≡ standings self.now.setup (past self.now)) }
+    {
+        all_rows(alloc, &self.table)
+    }
+
+    /// The table of the teams: a row for each team of the setup, with the points and the performance of its leaders, by points
+    /// and performance, the higher first, and then by number. It fails only for want of memory.
+    pub fn teams(&self, alloc: Global) -> Result<Vec<TeamRow>, AllocError>
+        ensures { IfOk result (λ rows. rows.items ≡ team_standings self.now.setup (past self.now)) }
+    {
+        let rows = self.rows(alloc)?;
+        team_table(alloc, &self.setup, rows.as_slice())
     }
 
     /// The number of entries.
@@ -112,18 +169,14 @@ impl Arena {
     {
         let _ = &self.setup;
     }
+}
 
-    /// The players who entered, in the order of the table: by rating, the higher first, and then by first enter entry. It fails
-    /// only for want of memory.
-    pub fn order(&self, alloc: Global) -> Result<Vec<u32>, AllocError>
-        ensures { IfOk result (λ list. list.items ≡ table_order self.now.setup (past self.now)) }
-    {
-        in_table_order(alloc, &self.setup, self.roster.entered())
-    }
-
+// What commands and questions are made of.
+impl Arena {
     // The stamp of what is done at this moment.
     fn stamp(&self, now: u64) -> u64
-        ensures { result ≡ stamp_of (past self.now) now }
+        ensures stamp { result ≡ stamp_of (past self.now) now }
+        ensures stays { stamp_of (past self.now) result ≡ result }
     {
         now.max(last_stamp(self.entries.as_slice())).min(MAX_STAMP)
     }
@@ -145,10 +198,94 @@ impl Arena {
             return Some(Refusal::Closed);
         }
         match c {
-            Command::Enter(p) => enter_refusal(self.roster.wish(p)),
-            Command::Leave(p) => leave_refusal(self.roster.wish(p)),
+            Command::Enter(p) => enter_refusal(self.wish(p)),
+            Command::Pause(p) => pause_refusal(self.wish(p)),
+            Command::Leave(p) => leave_refusal(self.wish(p)),
         }
     }
+
+    // What a player last asked for.
+    fn wish(&self, p: u32) -> Wish
+        requires { p < length self.now.setup.players }
+        ensures { result ≡ wish self.now.setup (past self.now) p }
+    {
+        self.seats.wish(p)
+    }
+
+    // Adds the entry of a command that is not refused.
+    fn obey(&mut self, stamp: u64, pass: u32, c: Command)
+        requires room { 1 ≤ self.old.spare }
+        requires player { IsCommandOf (length self.old.setup.players) c }
+        requires stays { stamp_of (past self.old) stamp ≡ stamp }
+        requires granted { verdict self.old.setup (past self.old) stamp c ≡ None }
+        ensures setup { self.new.setup ≡ self.old.setup }
+        ensures entries { self.new.entries ≡ self.old.entries ++ entry_of stamp pass c ∷ [] }
+        ensures spare { self.old.spare ≡ self.new.spare + 1 }
+    {
+        let n = self.entries.len() as u64 + 1;
+        keeping::list(&mut self.table, &self.setup, c);
+        keeping::place(&mut self.seats, n, c);
+        self.entries.push_reserved(entry_of(stamp, pass, c));
+    }
+
+    // The reply to a command whose entry is the last.
+    fn reply(&self, c: Command) -> Reply
+        requires { IsCommandOf (length self.now.setup.players) c }
+        ensures { (stamp : ℕ) → result ≡ reply_to self.now.setup (past self.now) stamp c }
+    {
+        match c {
+            Command::Enter(p) | Command::Pause(p) | Command::Leave(p) => Reply::Me(self.me(p)),
+        }
+    }
+
+    // A player.
+    fn me(&self, p: u32) -> MeView
+        requires { p < length self.now.setup.players }
+        ensures { result ≡ me_view self.now.setup (past self.now) p }
+    {
+        me_by(p, self.seats.seat(p), row_of(&self.table, p))
+    }
+
+    // The arena at a stamp.
+    fn view(&self, stamp: u64) -> ArenaView
+        ensures { result ≡ arena_view self.now.setup (past self.now) stamp }
+    {
+        ArenaView {
+            stamp,
+            phase: phase(&self.setup, stamp),
+            entered: self.table.len(),
+            begun: 0,
+            running: 0,
+        }
+    }
+
+    // The table's length, and ten rows of it.
+    fn standing(&self, alloc: Global, k: u32) -> Result<Answer, AllocError>
+        ensures { IfOk result (λ given. (stamp : ℕ) → given ≡ answer self.now.setup (past self.now) stamp (Query.Standing k)) }
+    {
+        Ok(Answer::Standing {
+            total: self.table.len(),
+            rows: List::of(rows_from(alloc, &self.table, k)?),
+        })
+    }
+
+    // The journal's length, and a thousand entries of it.
+    fn journal(&self, alloc: Global, k: u64) -> Result<Answer, AllocError>
+        ensures { IfOk result (λ given. (stamp : ℕ) → given ≡ answer self.now.setup (past self.now) stamp (Query.Journal k)) }
+    {
+        let entries = self.entries.as_slice();
+        Ok(Answer::Journal {
+            total: entries.len() as u64,
+            entries: List::of(entries_from(alloc, entries, k)?),
+        })
+    }
+}
+
+// The row of a player, if he has one.
+fn row_of(table: &Table, p: u32) -> Option<Row>
+    ensures { result ≡ row_of table.now.lines p }
+{
+    table.row(table.rank_of(p)?)
 }
 
 fn last_stamp(entries: &[Entry]) -> u64
@@ -162,6 +299,7 @@ fn entry_of(stamp: u64, pass: u32, c: Command) -> Entry
 {
     let what = match c {
         Command::Enter(p) => What::Enter(p),
+        Command::Pause(p) => What::Pause(p),
         Command::Leave(p) => What::Leave(p),
     };
     Entry { stamp, pass, what }

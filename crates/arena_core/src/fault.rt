@@ -1,4 +1,5 @@
 use history::Refusal;
+use std::alloc::AllocError;
 
 /// Why a command added no entry.
 #[derive(Debug, Clone, Copy, PartialEq, Eq)]
@@ -7,4 +8,17 @@ pub enum ApplyFault {
     Refused(Refusal),
     /// The command is not refused, and no memory was found for its entry.
     OutOfMemory,
+}
+
+/// Why a question is not answered.
+#[derive(Debug, Clone, Copy, PartialEq, Eq)]
+pub enum QueryFault {
+    /// No memory was found for the answer.
+    OutOfMemory,
+}
+
+impl From<AllocError> for QueryFault {
+    fn from(_fault: AllocError) -> QueryFault {
+        QueryFault::OutOfMemory
+    }
 }

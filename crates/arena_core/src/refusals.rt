@@ -1,19 +1,28 @@
 ghost use Rattle.std.specs.Prelude.{◌≡◌};
-ghost use Rattle.history.specs.Legal.{enter_refusal, leave_refusal, or_full};
+ghost use Rattle.history.specs.Legal.{enter_refusal, pause_refusal, leave_refusal, or_full};
 
-use entries::Entry;
+use entries::{Entry, MAX_ENTRIES};
 use history::{Refusal, Wish};
-
-/// How many entries a journal has at most.
-const MAX_ENTRIES: usize = 8_000_000;
 
 /// Whether a player of this wish may enter.
 pub fn enter_refusal(wish: Wish) -> Option<Refusal>
     ensures { result ≡ enter_refusal wish }
 {
     match wish {
-        Wish::Absent => None,
+        Wish::Absent | Wish::Paused => None,
         Wish::In => Some(Refusal::AlreadyIn),
+        Wish::Left => Some(Refusal::Left),
+    }
+}
+
+/// Whether a player of this wish may pause.
+pub fn pause_refusal(wish: Wish) -> Option<Refusal>
+    ensures { result ≡ pause_refusal wish }
+{
+    match wish {
+        Wish::Absent => Some(Refusal::NotEntered),
+        Wish::In => None,
+        Wish::Paused => Some(Refusal::AlreadyPaused),
         Wish::Left => Some(Refusal::Left),
     }
 }
@@ -24,7 +33,7 @@ pub fn leave_refusal(wish: Wish) -> Option<Refusal>
 {
     match wish {
         Wish::Absent => Some(Refusal::NotEntered),
-        Wish::In => None,
+        Wish::In | Wish::Paused => None,
         Wish::Left => Some(Refusal::Left),
     }
 }
@@ -34,7 +43,7 @@ pub fn or_full(entries: &[Entry], refusal: Option<Refusal>) -> Option<Refusal>
     ensures { result ≡ or_full entries.now refusal }
 {
     match refusal {
-        None if entries.len() >= MAX_ENTRIES => Some(Refusal::Full),
+        None if entries.len() as u64 >= MAX_ENTRIES => Some(Refusal::Full),
         _ => refusal,
     }
 }

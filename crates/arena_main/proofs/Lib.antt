@@ -1,4 +1,1 @@
-pub mod Causes
-pub mod Complete
-pub mod Lines
-pub mod OneFate
+mod Ends

@@ -1,5 +1,2 @@
-pub mod Fates
-pub mod Replayed
-pub mod Replays
 pub mod Runs
-pub mod Table
+pub mod Words

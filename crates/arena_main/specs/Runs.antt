@@ -1,12 +1,18 @@
 -- What a run of the program has done, by its words and its status.
-use Rattle.std.specs.Prelude.{◌≡◌, ℕ, ◌⊎◌, List, [], ◌∷◌, Option, codes}
+use Rattle.std.specs.Prelude.{◌≡◌, ℕ, ◌⊎◌, List, [], ◌∷◌, Option, Result, Ok, Err, codes}
 use Rattle.conn.specs.Told.{Gained, GainedPart}
-use Rattle.arena_main.specs.declared.replay_end.ReplayEnd.{ReplayEnd}
-use Rattle.arena_main.specs.declared.replay_end.ReplayEnd.TheVariants as end
+use Rattle.replay.specs.declared.replay_end.ReplayEnd.{ReplayEnd}
+use Rattle.replay.specs.declared.replay_end.ReplayEnd.TheVariants as end
 use Rattle.arena_main.specs.declared.status.Status.{Status}
 use Rattle.arena_main.specs.declared.status.Status.TheVariants.{Done, BadWords, BadJournal, Illegal, TooLong, ReadFault, WriteFault, OutOfMemory}
-use Rattle.arena_main.specs.Fates as fate
-use Rattle.arena_main.specs.Fates.{Fate}
+use Rattle.replay.specs.Fates as fate
+use Rattle.replay.specs.Fates.{Fate}
+use Rattle.replay.specs.Replays.{HadFate, IsReadToEnd}
+use Rattle.journal_text.specs.declared.fault.JournalFault.{JournalFault}
+use Rattle.replay.specs.declared.replay_end.IllegalCause.{IllegalCause}
+use Rattle.arena_main.specs.Words.{cause_line, journal_word, illegal_word}
+use Rattle.arena_main.specs.declared.telling.TellFault.{TellFault}
+use Rattle.arena_main.specs.declared.telling.TellFault.TheVariants as hindered
 
 -- the words are the one word `replay`
 abbrev pub IsReplay : List (List ℕ) → Type 0
@@ -27,29 +33,65 @@ RefusesWords old new TooLong = ⊥
 RefusesWords old new ReadFault = ⊥
 RefusesWords old new OutOfMemory = ⊥
 
--- the status of a run that is a replay with this end
-abbrev pub status_of : ReplayEnd → Status
-status_of end.Done = Done
-status_of (end.BadJournal fault) = BadJournal
-status_of (end.Illegal line cause) = Illegal
-status_of end.TooLong = TooLong
-status_of end.ReadFault = ReadFault
-status_of end.WriteFault = WriteFault
-status_of end.OutOfMemory = OutOfMemory
-
 -- the status of a replay of a text that comes to this
 abbrev pub status_due : Fate → Status
 status_due fate.TooLong = TooLong
-status_due (fate.BadJournal cause) = BadJournal
-status_due (fate.Illegal cause) = Illegal
+status_due (fate.BadJournal fault) = BadJournal
+status_due (fate.Illegal line cause) = Illegal
 status_due (fate.Table text) = Done
 
--- what is written of a text that comes to this: its table, or nothing
+-- what is written of a text that comes to this: its table, or the line that says where and why it has none; of a text that is
+-- too long nothing
 abbrev pub written_due : Fate → List ℕ
 written_due fate.TooLong = []
-written_due (fate.BadJournal cause) = []
-written_due (fate.Illegal cause) = []
+written_due (fate.BadJournal fault) = cause_line fault.line (journal_word fault.cause)
+written_due (fate.Illegal line cause) = cause_line line (illegal_word cause)
 written_due (fate.Table text) = text
+
+-- the bytes that a source or a sink tells, where it does
+abbrev Told : Type 0
+Told = Option (List ℕ)
+
+-- what a replay has done whose run ends with this status: what the source had and has left, what the sink held and holds
+abbrev pub ReplaysTo : Told → Told → Told → Told → Status → Type 0
+ReplaysTo told left old new Done =
+    (text : List ℕ) × HadFate told (fate.Table text) × Gained old new text × IsReadToEnd told left
+ReplaysTo told left old new BadJournal =
+    (fault : JournalFault) × HadFate told (fate.BadJournal fault) × Gained old new (written_due (fate.BadJournal fault))
+ReplaysTo told left old new Illegal =
+    (line : ℕ) × (cause : IllegalCause) × HadFate told (fate.Illegal line cause) × Gained old new (written_due (fate.Illegal line cause))
+ReplaysTo told left old new TooLong = HadFate told fate.TooLong × (new ≡ old)
+ReplaysTo told left old new ReadFault = new ≡ old
+ReplaysTo told left old new WriteFault = (f : Fate) × HadFate told f × GainedPart old new (written_due f)
+ReplaysTo told left old new OutOfMemory = new ≡ old
+ReplaysTo told left old new BadWords = ⊥
+
+-- a line was told, or a beginning of it where a write failed, or nothing where memory ran out
+abbrev pub Tells : Told → Told → List ℕ → Result (Unit {0}) TellFault → Type 0
+Tells old new text (Ok done) = Gained old new text
+Tells old new text (Err hindered.WriteFault) = GainedPart old new text
+Tells old new text (Err hindered.OutOfMemory) = new ≡ old
+
+-- the line was told and the status is the one that is due, or this was hindered
+abbrev pub Reports : Told → Told → List ℕ → Status → Status → Type 0
+Reports old new text due Done = ⊥
+Reports old new text due BadWords = ⊥
+Reports old new text due BadJournal = (due ≡ BadJournal) × Gained old new text
+Reports old new text due Illegal = (due ≡ Illegal) × Gained old new text
+Reports old new text due TooLong = ⊥
+Reports old new text due ReadFault = ⊥
+Reports old new text due WriteFault = GainedPart old new text
+Reports old new text due OutOfMemory = new ≡ old
+
+-- what comes behind a replay that ended so: the line of its cause, where it has one
+abbrev pub Finishes : Told → Told → ReplayEnd → Status → Type 0
+Finishes old new end.Done status = (status ≡ Done) × (new ≡ old)
+Finishes old new (end.BadJournal fault) status = Reports old new (cause_line fault.line (journal_word fault.cause)) BadJournal status
+Finishes old new (end.Illegal line cause) status = Reports old new (cause_line line (illegal_word cause)) Illegal status
+Finishes old new end.TooLong status = (status ≡ TooLong) × (new ≡ old)
+Finishes old new end.ReadFault status = (status ≡ ReadFault) × (new ≡ old)
+Finishes old new end.WriteFault status = (status ≡ WriteFault) × (new ≡ old)
+Finishes old new end.OutOfMemory status = (status ≡ OutOfMemory) × (new ≡ old)
 
 -- a read or a write failed, or memory ran out
 abbrev pub IsHindered : Status → Type 0

@@ -1,17 +1,13 @@
-//! The program: `replay` reads the journal of an arena from standard input and writes its table. What it does stands in `run`,
-//! over any source and any sink; `main` hands it the words of the command line and the real input and output.
+//! The program: `replay` reads the journal of an arena from standard input and writes its table, or the line that says where
+//! and why it has none. What it does stands in `run`, over any source and any sink; `main` hands it the words of the command
+//! line and the real input and output.
 #![tactic(auto)]
 
-mod laws;
-mod replay_end;
-mod replaying;
 mod running;
 mod status;
-mod table;
+mod telling;
 
 use conn::{Reading, Text, Writing};
-pub use laws::one_fate;
-pub use replay_end::{IllegalCause, ReplayEnd};
 pub use running::run;
 pub use status::Status;
 use std::process::ExitCode;

@@ -1,16 +1,14 @@
 ghost use Rattle.std.specs.Prelude.{◌≡◌, ◌↔◌, IsTrue, IfSome};
 ghost use Rattle.conn.specs.Faults.{Rose};
 ghost use Rattle.conn.specs.Told.{GaveAtMost};
-ghost use Rattle.arena_main.specs.declared.replay_end.ReplayEnd.{ReplayEnd as ReplayEndValue};
-ghost use Rattle.arena_main.specs.Fates.{Fate};
-ghost use Rattle.arena_main.specs.Replayed.{Replayed};
-ghost use Rattle.arena_main.specs.Replays.{Ends};
-ghost use Rattle.arena_main.specs.Runs.{IsReplay, RefusesWords, status_of, MeetsFate};
+ghost use Rattle.replay.specs.Fates.{Fate};
+ghost use Rattle.replay.specs.Replayed.{Replayed};
+ghost use Rattle.arena_main.specs.Runs.{IsReplay, RefusesWords, ReplaysTo, MeetsFate};
 
-use crate::replay_end::ReplayEnd;
-use crate::replaying::replay;
 use crate::status::Status;
+use crate::telling::finish;
 use conn::{Sink, Source, Text, write_all};
+use replay::{one_fate, replay};
 use std::alloc::Global;
 
 /// What is written where the words are none of the program's forms.
@@ -31,23 +29,9 @@ fn is_replay(words: &[Text]) -> bool
     words.len() == 1 && is_word(&words[0], b"replay")
 }
 
-// The status of a run that is a replay with this end.
-fn status_of(end: ReplayEnd) -> Status
-    ensures { result ≡ status_of end }
-{
-    match end {
-        ReplayEnd::Done => Status::Done,
-        ReplayEnd::BadJournal(_) => Status::BadJournal,
-        ReplayEnd::Illegal { .. } => Status::Illegal,
-        ReplayEnd::TooLong => Status::TooLong,
-        ReplayEnd::ReadFault => Status::ReadFault,
-        ReplayEnd::WriteFault => Status::WriteFault,
-        ReplayEnd::OutOfMemory => Status::OutOfMemory,
-    }
-}
-
 /// Runs the program that the words name. The one word `replay` reads a journal from the source and writes its table to the
-/// sink. For all other words the usage line is written.
+/// sink, or the line `line L: CAUSE` that says where the text stops being a legal journal's, and why. For all other words the
+/// usage line is written.
 pub fn run<S: Source, K: Sink>(
     alloc: Global,
     words: &[Text],
@@ -59,10 +43,10 @@ pub fn run<S: Source, K: Sink>(
     ensures usage { ¬ IsReplay words.now → RefusesWords (K.held sink.old) (K.held sink.new) result }
     ensures unread { ¬ IsReplay words.now → source.new ≡ source.old }
 
-    // With it the run is a replay, whose end says what was read and written. Whatever the text comes to, that is the
-    // status and what was written, unless a read or a write failed or memory ran out.
-    ensures replays { IsReplay words.now → (end : ReplayEndValue) × (result ≡ status_of end)
-        × Ends (S.left source.old) (S.left source.new) (K.held sink.old) (K.held sink.new) end }
+    // With it the run is a replay, whose status says what was read and written. Whatever the text comes to, that is the status
+    // and what was written, unless a read or a write failed or memory ran out.
+    ensures replays { IsReplay words.now
+        → ReplaysTo (S.left source.old) (S.left source.new) (K.held sink.old) (K.held sink.new) result }
     ensures complete { IsReplay words.now → IfSome (S.left source.old) (λ bytes.
         (fate : Fate) → Replayed bytes fate
         → MeetsFate fate (K.held sink.old) (K.held sink.new) result) }
@@ -81,5 +65,7 @@ pub fn run<S: Source, K: Sink>(
             Err(_) => Status::WriteFault,
         };
     }
-    status_of(replay(alloc, source, sink))
+    one_fate();
+    let end = replay(alloc, source, sink);
+    finish(alloc, sink, end)
 }

@@ -65,36 +65,12 @@ fn calls(alloc: Global, call: Option<u64>) -> Result<Vec<u64>, AllocError> {
 
 #[test]
 fn a_legal_journal_has_its_table(rt: HostRuntime) -> Result<(), Fail> {
-    let cases = [
-        (WITH_CAROL, TWO_ENTER, TABLE_OF_TWO),
-        (ALICE_AND_BOB, "end\n", "games 0 entries 0\n"),
-        // who left stands in the table too
-        (
-            ALICE_AND_BOB,
-            "0 0 enter 1\n0 3 enter 0\n9 0 leave 0\nend\n",
-            "1 alice 2000 0 0 0\n2 bob 1900 0 0 0\ngames 0 entries 3\n",
-        ),
-        // a leave at the last moment
-        (
-            ALICE_AND_BOB,
-            "0 0 enter 1\n3599999 0 leave 1\nend\n",
-            "1 bob 1900 0 0 0\ngames 0 entries 2\n",
-        ),
-    ];
-    for (players, entries, table) in cases {
-        for piece in [1, 7, 1000] {
-            let ran = run_over(
-                rt.alloc(),
-                &["replay"],
-                &[HEAD, players, entries],
-                piece,
-                None,
-                None,
-            )?;
-            assert_eq!(rt; ran.status, Status::Done);
-            assert_eq!(rt; ran.written.as_slice(), table.as_bytes());
-            assert_eq!(rt; ran.unread, 0);
-        }
+    for piece in [1, 7, 1000] {
+        let parts = [HEAD, WITH_CAROL, TWO_ENTER];
+        let ran = run_over(rt.alloc(), &["replay"], &parts, piece, None, None)?;
+        assert_eq!(rt; ran.status, Status::Done);
+        assert_eq!(rt; ran.written.as_slice(), TABLE_OF_TWO.as_bytes());
+        assert_eq!(rt; ran.unread, 0);
     }
     Ok(())
 }
@@ -119,55 +95,96 @@ fn other_words_get_the_usage_line_and_nothing_is_read(rt: HostRuntime) -> Result
     Ok(())
 }
 
+// A text that has no table, and what is written of it.
+struct Refused {
+    players: &'static str,
+    entries: &'static str,
+    status: Status,
+    line: &'static str,
+}
+
+const REFUSED: [Refused; 12] = [
+    Refused {
+        players: WITH_CAROL,
+        entries: "0 0 enter 0\n5 0 enter 2\n",
+        status: Status::BadJournal,
+        line: "line 12: Ended\n",
+    },
+    Refused {
+        players: "player 02000 - alice\nplayer 1900 - bob\nplayer 2100 - carol\nbegin\n",
+        entries: TWO_ENTER,
+        status: Status::BadJournal,
+        line: "line 6: Form\n",
+    },
+    Refused {
+        players: ALICE_AND_BOB,
+        entries: "0 0 tick\nend\n",
+        status: Status::BadJournal,
+        line: "line 9: NotBuilt\n",
+    },
+    Refused {
+        players: ALICE_AND_BOB,
+        entries: "0 0 enter 2\nend\n",
+        status: Status::BadJournal,
+        line: "line 9: Range\n",
+    },
+    Refused {
+        players: "player 2000 - alice\nplayer 1900 - alice\nbegin\n",
+        entries: "end\n",
+        status: Status::BadJournal,
+        line: "line 7: Repeat\n",
+    },
+    Refused {
+        players: WITH_CAROL,
+        entries: "0 0 enter 0\n5 0 enter 2\nend\n ",
+        status: Status::BadJournal,
+        line: "line 13: After\n",
+    },
+    Refused {
+        players: "player 2000 - alice\nbegin\n",
+        entries: "5 0 enter 0\n4 0 pause 0\nend\n",
+        status: Status::Illegal,
+        line: "line 9: StampFalls\n",
+    },
+    Refused {
+        players: ALICE_AND_BOB,
+        entries: "0 0 pause 0\nend\n",
+        status: Status::Illegal,
+        line: "line 9: NotEntered\n",
+    },
+    Refused {
+        players: ALICE_AND_BOB,
+        entries: "0 0 enter 0\n0 0 enter 0\nend\n",
+        status: Status::Illegal,
+        line: "line 10: AlreadyIn\n",
+    },
+    Refused {
+        players: ALICE_AND_BOB,
+        entries: "0 0 enter 0\n0 0 pause 0\n0 0 pause 0\nend\n",
+        status: Status::Illegal,
+        line: "line 11: AlreadyPaused\n",
+    },
+    Refused {
+        players: ALICE_AND_BOB,
+        entries: "0 0 enter 0\n1 0 leave 0\n2 0 enter 0\nend\n",
+        status: Status::Illegal,
+        line: "line 11: Left\n",
+    },
+    Refused {
+        players: ALICE_AND_BOB,
+        entries: "3600000 0 enter 0\nend\n",
+        status: Status::Illegal,
+        line: "line 9: Closed\n",
+    },
+];
+
 #[test]
-fn what_is_no_legal_journal_is_refused_and_nothing_is_written(rt: HostRuntime) -> Result<(), Fail> {
-    let cases = [
-        ("player 02000 - alice\nbegin\n", "end\n", Status::BadJournal),
-        (WITH_CAROL, "0 0 enter 0\n5 0 enter 2\n", Status::BadJournal),
-        (
-            WITH_CAROL,
-            "0 0 enter 0\n5 0 enter 2\nend\n ",
-            Status::BadJournal,
-        ),
-        (ALICE_AND_BOB, "0 0 enter 2\nend\n", Status::BadJournal),
-        (ALICE_AND_BOB, "0 0 wave 0\nend\n", Status::BadJournal),
-        (
-            "team Red\nplayer 2000 0 alice\nbegin\n",
-            "end\n",
-            Status::BadJournal,
-        ),
-        // a stamp that falls
-        (
-            ALICE_AND_BOB,
-            "5 0 enter 0\n4 0 enter 1\nend\n",
-            Status::Illegal,
-        ),
-        // who is in enters, who never entered leaves, who left enters
-        (
-            ALICE_AND_BOB,
-            "0 0 enter 0\n0 0 enter 0\nend\n",
-            Status::Illegal,
-        ),
-        (ALICE_AND_BOB, "0 0 leave 0\nend\n", Status::Illegal),
-        (
-            ALICE_AND_BOB,
-            "0 0 enter 0\n1 0 leave 0\n2 0 enter 0\nend\n",
-            Status::Illegal,
-        ),
-        // the arena is over
-        (ALICE_AND_BOB, "3600000 0 enter 0\nend\n", Status::Illegal),
-    ];
-    for (players, entries, status) in cases {
-        let ran = run_over(
-            rt.alloc(),
-            &["replay"],
-            &[HEAD, players, entries],
-            50,
-            None,
-            None,
-        )?;
-        assert_eq!(rt; ran.status, status, "{entries}");
-        assert_eq!(rt; ran.written.len(), 0);
+fn a_text_without_a_table_has_the_line_of_its_cause(rt: HostRuntime) -> Result<(), Fail> {
+    for refused in &REFUSED {
+        let parts = [HEAD, refused.players, refused.entries];
+        let ran = run_over(rt.alloc(), &["replay"], &parts, 50, None, None)?;
+        assert_eq!(rt; ran.status, refused.status, "{}", refused.line);
+        assert_eq!(rt; ran.written.as_slice(), refused.line.as_bytes());
         assert_eq!(rt; ran.unread, 0);
     }
     Ok(())
@@ -190,18 +207,17 @@ fn a_read_that_fails_at_any_place_is_told_and_nothing_is_written(
 
 #[test]
 fn a_write_that_fails_at_any_place_leaves_what_came_before(rt: HostRuntime) -> Result<(), Fail> {
-    let parts = [HEAD, WITH_CAROL, TWO_ENTER];
-    for (words, text) in [("replay", TABLE_OF_TWO), ("help", USAGE)] {
-        let writes = text.len().div_ceil(10);
-        for call in 0..writes {
-            let ran = run_over(
-                rt.alloc(),
-                &[words],
-                &parts,
-                10,
-                None,
-                u64::try_from(call).ok(),
-            )?;
+    let cases = [
+        ("replay", TWO_ENTER, TABLE_OF_TWO),
+        ("replay", "0 0 leave 1\nend\n", "line 10: NotEntered\n"),
+        ("replay", "0 0 leave 1\n", "line 11: Ended\n"),
+        ("help", TWO_ENTER, USAGE),
+    ];
+    for (word, entries, text) in cases {
+        for call in 0..text.len().div_ceil(10) {
+            let parts = [HEAD, WITH_CAROL, entries];
+            let failing = u64::try_from(call).ok();
+            let ran = run_over(rt.alloc(), &[word], &parts, 10, None, failing)?;
             assert_eq!(rt; ran.status, Status::WriteFault, "write {call}");
             let before = text.as_bytes().get(..call.saturating_mul(10));
             assert_eq!(rt; Some(ran.written.as_slice()), before);

@@ -5,7 +5,7 @@ use Rattle.entries.specs.declared.setup.Control.{Control}
 use Rattle.entries.specs.declared.setup.Player.{Player}
 use Rattle.entries.specs.declared.setup.Setup.{Setup}
 use Rattle.entries.specs.declared.journal.What.{What}
-use Rattle.entries.specs.declared.journal.What.TheVariants.{Enter, Leave}
+use Rattle.entries.specs.declared.journal.What.TheVariants.{Enter, Pause, Leave}
 use Rattle.entries.specs.declared.journal.Entry.{Entry}
 use Rattle.entries.specs.declared.journal.Journal.{Journal}
 use Rattle.entries.specs.Names.{IsName, AreDistinct}
@@ -52,6 +52,7 @@ pub record IsGood (s : Setup) : Type 0 where
 -- what an entry did is in range for so many players
 abbrev pub IsWhatOf : ℕ → What → Type 0
 IsWhatOf players (Enter p) = p < players
+IsWhatOf players (Pause p) = p < players
 IsWhatOf players (Leave p) = p < players
 
 -- an entry in range, for so many players

@@ -6,6 +6,8 @@ use conn::List;
 pub enum What {
     /// The player entered.
     Enter(u32),
+    /// The player paused, and may enter again.
+    Pause(u32),
     /// The player left for good.
     Leave(u32),
 }

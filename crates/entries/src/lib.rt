@@ -1,9 +1,15 @@
-//! The plain values of an arena: its setup, and the entries of its journal. Nothing here computes; the layers above rely
-//! on the ranges that `specs/Ranges.antt` gives.
+//! The plain values of an arena: its setup, the entries of its journal, and what a player may do in a game. The layers
+//! above rely on the ranges that `specs/Ranges.antt` gives and on the names of `specs/Names.antt`.
 #![tactic(auto)]
 
+mod action;
 mod journal;
+mod limits;
+mod name;
 mod setup;
 
+pub use action::Action;
 pub use journal::{Entry, Journal, What};
+pub use limits::{MAX_ENTRIES, MAX_STAMP};
+pub use name::is_name;
 pub use setup::{Control, Player, Setup};

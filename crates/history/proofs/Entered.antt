@@ -11,15 +11,16 @@ use Rattle.entries.specs.declared.setup.Setup.{Setup}
 use Rattle.entries.specs.declared.journal.Entry.{Entry}
 use Rattle.entries.specs.declared.journal.What.{What}
 use Rattle.entries.specs.declared.journal.What.TheVariants as what
-use Rattle.history.specs.declared.command.Command.TheVariants.{Leave}
+use Rattle.history.specs.declared.command.Command.TheVariants.{Pause, Leave}
 use Rattle.history.specs.declared.refusal.Refusal.TheVariants as refusal
-use Rattle.history.specs.declared.wish.Wish.{Wish}
-use Rattle.history.specs.declared.wish.Wish.TheVariants.{Absent, In, Left}
+use Rattle.seats.specs.declared.wish.Wish.{Wish}
+use Rattle.seats.specs.declared.wish.Wish.TheVariants.{Absent, In, Paused, Left}
+use Rattle.seats.specs.Places.{wish_set}
 use Rattle.history.specs.Commands.{is_enter_of}
 use Rattle.history.specs.History.{History, history}
-use Rattle.history.specs.Legal.{AllowsWhat, IsLegal, or_full, leave_refusal, verdict}
+use Rattle.history.specs.Legal.{AllowsWhat, IsLegal, or_full, pause_refusal, leave_refusal, verdict}
 use Rattle.history.specs.Table.{joined, entered_in, entered, first_enter}
-use Rattle.history.specs.Wishes.{wish_set, wish_in, wish, has_entered}
+use Rattle.history.specs.Wishes.{wish_in, wish, has_entered}
 use Rattle.history.proofs.Histories.{entries-history}
 use Rattle.history.proofs.Legality.{legal_induction}
 use Rattle.history.proofs.Lists.{slice_get-append_left, slice_get-push_cases, snoc_induction}
@@ -45,6 +46,7 @@ players_in s h t (what.Enter p) ps allowed all =
       | true ↦ all
       | false ↦ All-push (λ p. p < length s.players) ps p all allowed.0
     ]
+players_in s h t (what.Pause p) ps allowed all = all
 players_in s h t (what.Leave p) ps allowed all = all
 
 pub entered_are_players : (s : Setup) (es : List Entry) → IsLegal s es → All (λ p. p < length s.players) (entered (history s es))
@@ -87,6 +89,7 @@ has_enter p es = list_any (λ (e : Entry). is_enter_of p e.what) es
 
 stands_in-in : (p : ℕ) (w : What) (ps : List ℕ) → stands_in p (entered_in w ps) ≡ (stands_in p ps || (is_enter_of p w || false))
 stands_in-in p (what.Enter q) ps = stands_in-joined p q ps ∙ ap (λ b. stands_in p ps || b) (sym (or-false (q == p)))
+stands_in-in p (what.Pause q) ps = sym (or-false (stands_in p ps))
 stands_in-in p (what.Leave q) ps = sym (or-false (stands_in p ps))
 
 stands_in-enterers : (p : ℕ) (es : List Entry) → stands_in p (enterers es) ≡ has_enter p es
@@ -181,6 +184,7 @@ more_order es e r new order i j p q lt at at' =
     (slice_get-push_cases ps r j q at')
 
 order_in : (es : List Entry) (e : Entry) (w : What) → StandByFirst es (enterers es) → StandByFirst (es ++ e ∷ []) (entered_in w (enterers es))
+order_in es e (what.Pause r) order = same_order es e order
 order_in es e (what.Leave r) order = same_order es e order
 order_in es e (what.Enter r) order =
     ⊎_elim
@@ -204,22 +208,46 @@ order_of_entered h = order_of_enterers h.entries
 abbrev pub has_asked : Wish → Bool
 has_asked Absent = false
 has_asked In = true
+has_asked Paused = true
 has_asked Left = true
 
 asked_set : (w old : Wish) → has_asked w ≡ true → has_asked (wish_set w old) ≡ true
 asked_set w Absent asked = asked
 asked_set w In asked = asked
+asked_set w Paused asked = asked
 asked_set w Left asked = refl
 
 asked_from_leave : (es : List Entry) (closed : Bool) (w : Wish) → or_full es (cond closed (Some refusal.Closed) (leave_refusal w)) ≡ None → has_asked w ≡ true
 asked_from_leave es true w may = cc
 asked_from_leave es false Absent may = cc
 asked_from_leave es false In may = refl
+asked_from_leave es false Paused may = refl
 asked_from_leave es false Left may = refl
 
 asked_before_leave : (s : Setup) (h : History) (t p : ℕ) → verdict s h t (Leave p) ≡ None → has_asked (wish s h p) ≡ true
 unfolding verdict
 asked_before_leave s h t p may = asked_from_leave h.entries (nat_le s.ends t) (wish s h p) may
+
+asked_from_pause : (es : List Entry) (closed : Bool) (w : Wish) → or_full es (cond closed (Some refusal.Closed) (pause_refusal w)) ≡ None → has_asked w ≡ true
+asked_from_pause es true w may = cc
+asked_from_pause es false Absent may = cc
+asked_from_pause es false In may = refl
+asked_from_pause es false Paused may = refl
+asked_from_pause es false Left may = refl
+
+asked_before_pause : (s : Setup) (h : History) (t p : ℕ) → verdict s h t (Pause p) ≡ None → has_asked (wish s h p) ≡ true
+unfolding verdict
+asked_before_pause s h t p may = asked_from_pause h.entries (nat_le s.ends t) (wish s h p) may
+
+-- a wish that is set to something stays asked for, of somebody who has asked
+asked_again : (s : Setup) (h : History) (p q : ℕ) (new : Wish) (ps : List ℕ) → has_asked new ≡ true → has_asked (wish s h q) ≡ true → stands_in p ps ≡ has_asked (wish s h p) → stands_in p ps ≡ has_asked (cond (q == p) (wish_set new (wish s h p)) (wish s h p))
+asked_again s h p q new ps is asked same =
+    ⊎_elim
+    (λ (own : (q == p) ≡ true).
+    let asked_p : has_asked (wish s h p) ≡ true = ap (λ n. has_asked (wish s h n)) (sym (eqb-true q p own)) ∙ asked in
+    rw (own, asked_set new (wish s h p) is) (same ∙ asked_p))
+    (λ (other : (q == p) ≡ false). rw other same)
+    (cases_Bool (q == p))
 
 asked_in : (s : Setup) (h : History) (t p : ℕ) (w : What) (ps : List ℕ) → AllowsWhat s h t w → stands_in p ps ≡ has_asked (wish s h p) → stands_in p (entered_in w ps) ≡ has_asked (wish_in p w (wish s h p))
 asked_in s h t p (what.Enter q) ps allowed same =
@@ -229,13 +257,8 @@ asked_in s h t p (what.Enter q) ps allowed same =
     (λ (other : (q == p) ≡ false). rw other (or-false (stands_in p ps) ∙ same))
     (cases_Bool (q == p))
     )
-asked_in s h t p (what.Leave q) ps allowed same =
-    ⊎_elim
-    (λ (own : (q == p) ≡ true).
-    let asked : has_asked (wish s h p) ≡ true = ap (λ n. has_asked (wish s h n)) (sym (eqb-true q p own)) ∙ asked_before_leave s h t q allowed.1 in
-    rw (own, asked_set Left (wish s h p) refl) (same ∙ asked))
-    (λ (other : (q == p) ≡ false). rw other same)
-    (cases_Bool (q == p))
+asked_in s h t p (what.Pause q) ps allowed same = asked_again s h p q Paused ps refl (asked_before_pause s h t q allowed.1) same
+asked_in s h t p (what.Leave q) ps allowed same = asked_again s h p q Left ps refl (asked_before_leave s h t q allowed.1) same
 
 pub asked_entered : (s : Setup) (es : List Entry) (p : ℕ) → IsLegal s es → stands_in p (entered (history s es)) ≡ has_asked (wish s (history s es) p)
 asked_entered s es p legal =
@@ -247,6 +270,7 @@ asked_entered s es p legal =
 asked_wish : (w : Wish) → IsTrue (has_asked w) ↔ (w ≢ Absent)
 asked_wish Absent = (λ no. cc, λ no. absurd (no refl))
 asked_wish In = (λ is. λ no. cc, λ is. refl)
+asked_wish Paused = (λ is. λ no. cc, λ is. refl)
 asked_wish Left = (λ is. λ no. cc, λ is. refl)
 
 pub entered_have_asked : (s : Setup) (es : List Entry) (p : ℕ) → IsLegal s es → IsTrue (has_entered (history s es) p) ↔ (wish s (history s es) p ≢ Absent)

@@ -9,7 +9,8 @@ use Rattle.std.proofs.lemmas.List.Sums.{fold-append}
 use Rattle.entries.specs.declared.setup.Setup.{Setup}
 use Rattle.entries.specs.declared.journal.Entry.{Entry}
 use Rattle.entries.specs.declared.journal.What.{What}
-use Rattle.entries.specs.declared.journal.What.TheVariants.{Enter, Leave}
+use Rattle.entries.specs.declared.journal.What.TheVariants.{Enter, Pause, Leave}
+use Rattle.history.specs.Games.{games_from, begun}
 use Rattle.history.specs.History.{Start, History, nothing, begun_in, begun_by, after, history, starts_below, first}
 
 -- each game was started by one of the first n entries
@@ -56,6 +57,7 @@ AllFrom-le m n (g ∷ gs) le all = ((let late : n ≤ g.entry = all.0 in omega a
 
 begun_in_from : (s : Setup) (h : History) (w : What) → AllFrom (length h.entries) (begun_in s h w)
 begun_in_from s h (Enter p) = tt
+begun_in_from s h (Pause p) = tt
 begun_in_from s h (Leave p) = tt
 
 begun_by_from : (s : Setup) (h : History) (e : Entry) → AllFrom (length h.entries) (begun_by s h e)
@@ -64,11 +66,21 @@ begun_by_from s h e = begun_in_from s h e.what
 
 begun_in_below : (s : Setup) (h : History) (w : What) → AllBelow (suc (length h.entries)) (begun_in s h w)
 begun_in_below s h (Enter p) = tt
+begun_in_below s h (Pause p) = tt
 begun_in_below s h (Leave p) = tt
 
 begun_by_below : (s : Setup) (h : History) (e : Entry) → AllBelow (suc (length h.entries)) (begun_by s h e)
 unfolding begun_by
 begun_by_below s h e = begun_in_below s h e.what
+
+begun_in_none : (s : Setup) (h : History) (w : What) → begun_in s h w ≡ []
+begun_in_none s h (Enter p) = refl
+begun_in_none s h (Pause p) = refl
+begun_in_none s h (Leave p) = refl
+
+begun_by_none : (s : Setup) (h : History) (e : Entry) → begun_by s h e ≡ []
+unfolding begun_by
+begun_by_none s h e = begun_in_none s h e.what
 
 -- one entry more
 
@@ -146,3 +158,21 @@ module _ (s : Setup) where
       let long : length (history s es).entries ≤ n = rw entries-history le in
       first_all (history s es) n (IsWhole-history es) long ∙ ap (history s) (sym (take_all n es le)))
       (cases_lt n (length es))
+
+  -- no list of entries starts a game
+
+  starts-after : (h : History) (e : Entry) → h.starts ≡ [] → (after s h e).starts ≡ []
+  unfolding after
+  starts-after h e none = λ i. none i ++ begun_by_none s h e i
+
+  starts-fold : (h : History) (es : List Entry) → h.starts ≡ [] → (fold (after s) h es).starts ≡ []
+  starts-fold h [] none = none
+  starts-fold h (e ∷ es) none = starts-fold (after s h e) es (starts-after h e none)
+
+  starts-history : (es : List Entry) → (history s es).starts ≡ []
+  unfolding history
+  starts-history es = starts-fold nothing es refl
+
+  pub begun-history : (es : List Entry) → begun (history s es) ≡ []
+  unfolding begun
+  begun-history es = ap (games_from 0) (starts-history es)

@@ -9,7 +9,7 @@ use Rattle.entries.specs.declared.journal.Entry.{Entry}
 use Rattle.entries.specs.declared.journal.What.{What}
 use Rattle.entries.specs.declared.journal.What.TheVariants as what
 use Rattle.history.specs.declared.command.Command.{Command}
-use Rattle.history.specs.declared.command.Command.TheVariants.{Enter, Leave}
+use Rattle.history.specs.declared.command.Command.TheVariants.{Enter, Pause, Leave}
 use Rattle.history.specs.declared.refusal.Refusal.{Refusal}
 use Rattle.history.specs.declared.refusal.Refusal.TheVariants as refusal
 use Rattle.history.specs.History.{History, history}
@@ -80,6 +80,7 @@ room_from_verdict s h t c may = or_full_none h.entries (own_refusal s h t c) may
 
 room_in : (s : Setup) (h : History) (t : ℕ) (w : What) → AllowsWhat s h t w → length h.entries < 8000000
 room_in s h t (what.Enter p) granted = room_from_verdict s h t (Enter p) granted.1
+room_in s h t (what.Pause p) granted = room_from_verdict s h t (Pause p) granted.1
 room_in s h t (what.Leave p) granted = room_from_verdict s h t (Leave p) granted.1
 
 -- an allowed entry finds the journal not full

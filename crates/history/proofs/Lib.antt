@@ -2,8 +2,10 @@ pub mod Entered
 pub mod Histories
 pub mod Legality
 pub mod Lists
-pub mod Orders
+pub mod PlaceLists
+pub mod StandLaws
 pub mod Stamps
+pub mod TableLaws
 pub mod Tables
 pub mod Walks
 pub mod WishLaws

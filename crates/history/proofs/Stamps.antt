@@ -13,7 +13,7 @@ use Rattle.entries.specs.declared.journal.What.{What}
 use Rattle.entries.specs.declared.journal.What.TheVariants as what
 use Rattle.entries.specs.Ranges.{IsWhatOf, IsEntryOf}
 use Rattle.history.specs.declared.command.Command.{Command}
-use Rattle.history.specs.declared.command.Command.TheVariants.{Enter, Leave}
+use Rattle.history.specs.declared.command.Command.TheVariants.{Enter, Pause, Leave}
 use Rattle.history.specs.Commands.{IsCommandOf, entry_of}
 use Rattle.history.specs.History.{History, history}
 use Rattle.history.specs.Legal.{last_stamp, stamp_of, verdict, AllowsWhat, Allowed, IsLegal}
@@ -43,6 +43,7 @@ stamps-legal s es legal =
 
 what_in_range : (s : Setup) (h : History) (t : ℕ) (w : What) → AllowsWhat s h t w → IsWhatOf (length s.players) w
 what_in_range s h t (what.Enter p) granted = granted.0
+what_in_range s h t (what.Pause p) granted = granted.0
 what_in_range s h t (what.Leave p) granted = granted.0
 
 -- each entry of a legal list is in range, if its pass is
@@ -62,10 +63,12 @@ stamp_of-legal s es now legal = let last = last_stamp-legal s es legal in rw (en
 
 granted : (s : Setup) (h : History) (t : ℕ) (c : Command) → IsCommandOf (length s.players) c → verdict s h t c ≡ None → AllowsWhat s h t (entry_of t 0 c).what
 granted s h t (Enter p) player may = (player, may)
+granted s h t (Pause p) player may = (player, may)
 granted s h t (Leave p) player may = (player, may)
 
 not_refused : (s : Setup) (h : History) (t : ℕ) (c : Command) → AllowsWhat s h t (entry_of t 0 c).what → verdict s h t c ≡ None
 not_refused s h t (Enter p) granted = granted.1
+not_refused s h t (Pause p) granted = granted.1
 not_refused s h t (Leave p) granted = granted.1
 
 -- the entry of a player's command that is not refused is allowed

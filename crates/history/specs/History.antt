@@ -4,7 +4,7 @@ use Rattle.std.specs.Prelude.{ℕ, suc, nat_lt, List, [], ◌∷◌, ◌++◌, t
 use Rattle.entries.specs.declared.setup.Setup.{Setup}
 use Rattle.entries.specs.declared.journal.Entry.{Entry}
 use Rattle.entries.specs.declared.journal.What.{What}
-use Rattle.entries.specs.declared.journal.What.TheVariants.{Enter, Leave}
+use Rattle.entries.specs.declared.journal.What.TheVariants.{Enter, Pause, Leave}
 
 -- a game: the number of the entry that started it, and its two players
 pub record Start : Type 0 where
@@ -21,9 +21,10 @@ pub record History : Type 0 where
 abbrev pub nothing : History
 nothing = record { entries = []; starts = [] }
 
--- the games that an entry of this kind starts at a history: no enter and no leave starts one
+-- the games that an entry of this kind starts at a history: no enter, no pause and no leave starts one
 abbrev pub begun_in : Setup → History → What → List Start
 begun_in s h (Enter p) = []
+begun_in s h (Pause p) = []
 begun_in s h (Leave p) = []
 
 -- the games that an entry starts at a history

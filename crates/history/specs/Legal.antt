@@ -5,11 +5,11 @@ use Rattle.entries.specs.declared.journal.Entry.{Entry}
 use Rattle.entries.specs.declared.journal.What.{What}
 use Rattle.entries.specs.declared.journal.What.TheVariants as what
 use Rattle.history.specs.declared.command.Command.{Command}
-use Rattle.history.specs.declared.command.Command.TheVariants.{Enter, Leave}
+use Rattle.history.specs.declared.command.Command.TheVariants.{Enter, Pause, Leave}
 use Rattle.history.specs.declared.refusal.Refusal.{Refusal}
 use Rattle.history.specs.declared.refusal.Refusal.TheVariants as refusal
-use Rattle.history.specs.declared.wish.Wish.{Wish}
-use Rattle.history.specs.declared.wish.Wish.TheVariants.{Absent, In, Left}
+use Rattle.seats.specs.declared.wish.Wish.{Wish}
+use Rattle.seats.specs.declared.wish.Wish.TheVariants.{Absent, In, Paused, Left}
 use Rattle.history.specs.Commands.{IsCommandOf}
 use Rattle.history.specs.History.{History, history}
 use Rattle.history.specs.Wishes.{wish}
@@ -30,17 +30,27 @@ closed_or s t next = if nat_le s.ends t then Some refusal.Closed else next
 abbrev pub enter_refusal : Wish → Option Refusal
 enter_refusal Absent = None
 enter_refusal In = Some refusal.AlreadyIn
+enter_refusal Paused = None
 enter_refusal Left = Some refusal.Left
+
+-- who never entered does not pause, nor who pauses, and who left does not come back
+abbrev pub pause_refusal : Wish → Option Refusal
+pause_refusal Absent = Some refusal.NotEntered
+pause_refusal In = None
+pause_refusal Paused = Some refusal.AlreadyPaused
+pause_refusal Left = Some refusal.Left
 
 -- who never entered does not leave, and nobody leaves twice
 abbrev pub leave_refusal : Wish → Option Refusal
 leave_refusal Absent = Some refusal.NotEntered
 leave_refusal In = None
+leave_refusal Paused = None
 leave_refusal Left = Some refusal.Left
 
 -- the first of a command's own refusals at a history and a stamp
 abbrev pub own_refusal : Setup → History → ℕ → Command → Option Refusal
 own_refusal s h t (Enter p) = closed_or s t (enter_refusal (wish s h p))
+own_refusal s h t (Pause p) = closed_or s t (pause_refusal (wish s h p))
 own_refusal s h t (Leave p) = closed_or s t (leave_refusal (wish s h p))
 
 -- where nothing else refuses, a list of 8,000,000 entries is full
@@ -59,6 +69,7 @@ IsGranted s h t c = IsCommandOf (length s.players) c × (verdict s h t c ≡ Non
 -- what an entry of this kind must meet at a history and a stamp
 abbrev pub AllowsWhat : Setup → History → ℕ → What → Type 0
 AllowsWhat s h t (what.Enter p) = IsGranted s h t (Enter p)
+AllowsWhat s h t (what.Pause p) = IsGranted s h t (Pause p)
 AllowsWhat s h t (what.Leave p) = IsGranted s h t (Leave p)
 
 -- an entry is allowed at the history before it: its stamp does not fall and has its bound, and its command is granted

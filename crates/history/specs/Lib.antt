@@ -1,6 +1,10 @@
+pub mod Answers
 pub mod Commands
+pub mod Games
 pub mod History
 pub mod Laws
 pub mod Legal
+pub mod Stands
 pub mod Table
+pub mod Views
 pub mod Wishes

@@ -1,14 +1,21 @@
--- Who stands in the table, and in which order.
-use Rattle.std.specs.Prelude.{◌≡◌, ℕ, ◌<◌, ◌==◌, nat_lt, Bool, if◌then◌else◌, ◌⊎◌, List, [], ◌∷◌, ◌++◌, fold, slice_get}
+-- Who stands in the table, with what, and in which order.
+use Rattle.std.specs.Prelude.{◌≡◌, ℕ, ◌<◌, ◌==◌, true, false, if◌then◌else◌, ◌⊎◌, List, [], ◌∷◌, ◌++◌, length, map, fold, slice_get}
 use Rattle.std.specs.List.{list_any, position_or_len}
 use Rattle.std.specs.Option.{option_map_or}
 use Rattle.entries.specs.declared.setup.Player.{Player}
 use Rattle.entries.specs.declared.setup.Setup.{Setup}
 use Rattle.entries.specs.declared.journal.Entry.{Entry}
 use Rattle.entries.specs.declared.journal.What.{What}
-use Rattle.entries.specs.declared.journal.What.TheVariants.{Enter, Leave}
+use Rattle.entries.specs.declared.journal.What.TheVariants.{Enter, Pause, Leave}
+use Rattle.ranking.specs.declared.row.Row.{Row}
+use Rattle.ranking.specs.declared.line.Line.{Line}
+use Rattle.ranking.specs.Order.{above}
+use Rattle.ranking.specs.Rows.{rows}
+use Rattle.team_battle.specs.declared.team_row.TeamRow.{TeamRow}
+use Rattle.team_battle.specs.Teams as battle
 use Rattle.history.specs.Commands.{is_enter_of}
 use Rattle.history.specs.History.{History}
+use Rattle.history.specs.Games.{Result, results, points_of, performance_of, fire_of}
 
 -- p behind these players, unless he is one of them
 abbrev pub joined : List ℕ → ℕ → List ℕ
@@ -17,6 +24,7 @@ joined players p = if list_any (λ q. q == p) players then players else players 
 -- those who entered, once an entry of this kind came
 abbrev pub entered_in : What → List ℕ → List ℕ
 entered_in (Enter p) players = joined players p
+entered_in (Pause p) players = players
 entered_in (Leave p) players = players
 
 -- the players who ever entered, by their first enter entries
@@ -27,31 +35,30 @@ entered h = fold (λ players (e : Entry). entered_in e.what players) [] h.entrie
 abbrev pub rating_of : Setup → ℕ → ℕ
 rating_of s p = option_map_or (λ (x : Player). x.rating) (slice_get s.players p) 0
 
--- p is rated higher than q
-abbrev pub rated_above : Setup → ℕ → ℕ → Bool
-rated_above s p q = nat_lt (rating_of s q) (rating_of s p)
+-- a player's line of the table, from his rating and his counted games
+abbrev pub line_by : ℕ → ℕ → List Result → Line
+line_by p rating rs = record { player = p; rating = rating; points = points_of rs; performance = performance_of rs; games = length rs; fire = fire_of rs }
 
--- p stands above q, no matter who entered first: he is rated higher
-abbrev pub outranks : Setup → History → ℕ → ℕ → Bool
-outranks s h p q = rated_above s p q
+-- p's line of the table
+unfoldable pub line_of : Setup → History → ℕ → Line
+line_of s h p = line_by p (rating_of s p) (results s h p)
 
--- p put into a list, above the first whom he outranks
-abbrev pub placed : (ℕ → ℕ → Bool) → List ℕ → ℕ → List ℕ
-placed above [] p = p ∷ []
-placed above (q ∷ below) p = if above p q then p ∷ q ∷ below else q ∷ placed above below p
+-- the lines of the players who entered, by their first enter entries
+unfoldable pub lines : Setup → History → List Line
+lines s h = map (line_of s h) (entered h)
 
--- players put in order, one after another
-abbrev pub in_order : (ℕ → ℕ → Bool) → List ℕ → List ℕ
-in_order above players = fold (placed above) [] players
+-- the table: the rows of those who entered, by points, performance and rating, the higher first, and then by first enter
+unfoldable pub standings : Setup → History → List Row
+standings s h = rows (lines s h)
 
--- the table: the players who entered, put in order as they entered
-unfoldable pub table_order : Setup → History → List ℕ
-table_order s h = in_order (outranks s h) (entered h)
+-- the table of the teams: each with what its leaders in the table of the players have
+unfoldable pub team_standings : Setup → History → List TeamRow
+team_standings s h = battle.teams s (standings s h)
 
 -- the number of p's first enter entry, or the number of all entries where he has none
 abbrev pub first_enter : History → ℕ → ℕ
 first_enter h p = position_or_len (λ (e : Entry). is_enter_of p e.what) h.entries
 
--- p comes before q in the table: by rating, the higher first, and then by first enter entry
-abbrev pub Precedes : Setup → History → ℕ → ℕ → Type 0
-Precedes s h p q = (rating_of s q < rating_of s p) ⊎ ((rating_of s p ≡ rating_of s q) × (first_enter h p < first_enter h q))
+-- a line comes before another: it stands above it, or neither stands above the other and its player entered first
+abbrev pub Precedes : History → Line → Line → Type 0
+Precedes h x y = (above x y ≡ true) ⊎ ((above x y ≡ false) × (above y x ≡ false) × (first_enter h x.player < first_enter h y.player))

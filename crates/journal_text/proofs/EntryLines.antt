@@ -1,31 +1,30 @@
 -- The lines of the entries: what they say is what they were written from, and what was written is read again.
-use Rattle.std.proofs.Common.{◌≡◌, ℕ, ◌^◌, ◌<◌, ◌≤◌, Bool, true, false, cond, eqb, leb, ltb, ◌&&◌, List, [], ◌∷◌, ◌++◌, length, All, Option, Some, None, Result, Ok, Err, option_and_then, refl, sym, ap, subst, ◌∙◌, arith, inl, inr, append_assoc, append-nil}
+use Rattle.std.proofs.Common.{◌≡◌, ℕ, ◌^◌, ◌<◌, ◌≤◌, Bool, true, false, cond, eqb, leb, ltb, ◌&&◌, List, [], ◌∷◌, ◌++◌, length, All, Option, Some, None, is_some, Result, Ok, Err, option_and_then, refl, sym, ap, subst, ◌∙◌, arith, inl, inr, append_assoc, append-nil}
 use Rattle.std.specs.Prelude.{codes}
-use Rattle.std.specs.Char.{is_ascii_digit}
 use Rattle.std.specs.Fmt.{decimal}
 use Rattle.std.specs.List.{AllByRecursion, flat_map}
-use Rattle.std.specs.Str.{bytes_eq, all_ascii_digits}
-use Rattle.std.proofs.lemmas.Bool.{cases_Bool, and_parts, and_from, leb-true, le-leb, ltb-true, lt-ltb, ne_eqb}
+use Rattle.std.specs.Str.{bytes_eq}
+use Rattle.std.proofs.lemmas.Bool.{cases_Bool, and_parts, and_from, and_right, leb-true, le-leb, ltb-true, lt-ltb, ne_eqb}
 use Rattle.std.proofs.lemmas.Slice.Eq.{bytes_eq-Decides}
-use Rattle.std.proofs.lemmas.Fmt.{decimal_nonempty}
 use Rattle.std.proofs.lemmas.List.{length-append, length_push}
 use Rattle.std.proofs.lemmas.List.Elements.{All-nil, All-push}
 use Rattle.decimals.specs.Decimals.{number_of}
-use Rattle.decimals.proofs.DecimalLemmas.{number_of-decimal, all_digits-decimal}
+use Rattle.decimals.proofs.DecimalLemmas.{number_of-decimal}
 use Rattle.entries.specs.Ranges.{IsWhatOf, IsEntryOf}
 use Rattle.entries.specs.declared.journal.What.{What}
 use Rattle.entries.specs.declared.journal.What.TheVariants as what
 use Rattle.entries.specs.declared.journal.Entry.{Entry}
 use Rattle.journal_text.specs.declared.entry_lines.Kind.{Kind}
-use Rattle.journal_text.specs.declared.entry_lines.Kind.TheVariants.{Enter, Leave}
-use Rattle.journal_text.specs.declared.fault.JournalCause.TheVariants.{Form}
+use Rattle.journal_text.specs.declared.entry_lines.Kind.TheVariants.{Enter, Pause, Leave}
+use Rattle.journal_text.specs.declared.fault.JournalCause.{JournalCause}
+use Rattle.journal_text.specs.declared.fault.JournalCause.TheVariants.{NotBuilt}
 use Rattle.journal_text.specs.declared.fault.JournalFault.{JournalFault}
 use Rattle.journal_text.specs.Lines.{spaced, line, lines_of, words_of, first, two}
 use Rattle.journal_text.specs.Text.{what_words, entry_words, entry_line}
-use Rattle.journal_text.specs.Forms.{kind_of, what_form, entry_form, entry_fits, what_made, entry_made, entry_in}
-use Rattle.journal_text.specs.Reading.{◌>>◌, at_line, follows, entries_in}
-use Rattle.journal_text.proofs.Fails.{bind_some, guard_some, some, some_is, line_ok, judged_ok, judged_again, text_ok_is, bind_ok, at_line_ok, then_ok, passed}
-use Rattle.journal_text.proofs.FormLemmas.{same_word, two_is, first_is, decimal_is}
+use Rattle.journal_text.specs.Forms.{formed, ranged, kind_of, what_form, entry_form, entry_fits, what_made, entry_made, begins_unbuilt, is_unbuilt, entry_in}
+use Rattle.journal_text.specs.Reading.{at_line, entry_place, entries_in}
+use Rattle.journal_text.proofs.Fails.{bind_some, guard_some, some, some_is, line_ok, judged_ok, text_ok_is, bind_ok, at_line_ok}
+use Rattle.journal_text.proofs.FormLemmas.{same_word, two_is, first_is, decimal_is, decimal_front}
 use Rattle.journal_text.proofs.WordLemmas.{IsWord, tested_word, words_of-spaced, next-line, IsWord-decimal}
 use Rattle.journal_text.proofs.ReadLines.{joined, spelled_words}
 use Rattle.journal_text.proofs.Steps.{entries_step}
@@ -33,15 +32,23 @@ use Rattle.journal_text.proofs.HeadLines.{number_is_words}
 
 -- ---- an entry
 
+-- the same, of the kinds behind the first
+kind_takes_others : (word : List ℕ) (player : ℕ) (kind : Kind) → cond (bytes_eq word (codes "pause")) (Some Pause) (cond (bytes_eq word (codes "leave")) (Some Leave) None) ≡ Some kind → word ∷ decimal player ∷ [] ≡ what_words (what_made kind player)
+kind_takes_others word player kind e =
+    elim (cases_Bool (bytes_eq word (codes "pause"))) [
+      | inl pause ↦ subst (λ (kind : Kind). word ∷ decimal player ∷ [] ≡ what_words (what_made kind player)) (some_is Pause kind (rw pause at e)) (ap (λ (w : List ℕ). w ∷ decimal player ∷ []) (same_word word (codes "pause") pause))
+      | inr other ↦
+          let g = guard_some (bytes_eq word (codes "leave")) (Some Leave) kind (rw other at e) in
+          subst (λ (kind : Kind). word ∷ decimal player ∷ [] ≡ what_words (what_made kind player)) (some_is Leave kind g.1) (ap (λ (w : List ℕ). w ∷ decimal player ∷ []) (same_word word (codes "leave") g.0))
+    ]
+
 -- the word of a kind, and a player, are what such an entry has written
 kind_takes : (word : List ℕ) (player : ℕ) (kind : Kind) → kind_of word ≡ Some kind → word ∷ decimal player ∷ [] ≡ what_words (what_made kind player)
 unfolding kind_of
 kind_takes word player kind e =
     elim (cases_Bool (bytes_eq word (codes "enter"))) [
       | inl enter ↦ subst (λ (kind : Kind). word ∷ decimal player ∷ [] ≡ what_words (what_made kind player)) (some_is Enter kind (rw enter at e)) (ap (λ (w : List ℕ). w ∷ decimal player ∷ []) (same_word word (codes "enter") enter))
-      | inr other ↦
-          let g = guard_some (bytes_eq word (codes "leave")) (Some Leave) kind (rw other at e) in
-          subst (λ (kind : Kind). word ∷ decimal player ∷ [] ≡ what_words (what_made kind player)) (some_is Leave kind g.1) (ap (λ (w : List ℕ). w ∷ decimal player ∷ []) (same_word word (codes "leave") g.0))
+      | inr other ↦ kind_takes_others word player kind (rw other at e)
     ]
 
 -- what is read of an entry's last words was written so
@@ -65,7 +72,7 @@ three_parts : (a b x y : List ℕ) (more others : List (List ℕ)) → a ≡ x �
 three_parts a b x y more others p q r = cc
 
 -- a line with the form of an entry has just its words
-entry_form_is : (words : List (List ℕ)) (e : ℕ × ℕ × Kind × ℕ) → entry_form words ≡ Some e → words ≡ entry_words (entry_made e)
+pub entry_form_is : (words : List (List ℕ)) (e : ℕ × ℕ × Kind × ℕ) → entry_form words ≡ Some e → words ≡ entry_words (entry_made e)
 unfolding entry_form
 entry_form_is words e h =
     let a = bind_some (first words) _ e h in
@@ -79,42 +86,72 @@ entry_form_is words e h =
 -- a player below their number is in range for each kind
 what_in_range : (players : ℕ) (kind : Kind) (player : ℕ) → player < players → IsWhatOf players (what_made kind player)
 what_in_range players Enter player below = below
+what_in_range players Pause player below = below
 what_in_range players Leave player below = below
 
--- the entry that a line says has these words, and is in range
-pub entry_takes : (players : ℕ) (words : List (List ℕ)) (e : Entry) → entry_in players words ≡ Ok e → (words ≡ entry_words e) × IsEntryOf players e
+-- the kind is built
+guard_built : {B : Type 0} (b : Bool) (r : Result B JournalCause) (y : B) → cond b (Err NotBuilt) r ≡ Ok y → (b ≡ false) × (r ≡ Ok y)
+guard_built true r y e = absurd cc
+guard_built false r y e = (refl, e)
+
+-- the entry that a line says has these words and is in range, and there was room for it
+pub entry_takes : (players entries : ℕ) (words : List (List ℕ)) (e : Entry) → entry_in players entries words ≡ Ok e → (words ≡ entry_words e) × IsEntryOf players e × (entries < 8000000)
 unfolding entry_in
-entry_takes players words e h =
-    let j = judged_ok (entry_form words) (entry_fits players) entry_made e h in
-    let fit = and_parts (leb j.0.0 1000000000 && leb j.0.1 255) (ltb j.0.3 players) j.2 in
+entry_takes players entries words e h =
+    let b = guard_built (is_unbuilt words) (formed (entry_form words) (λ e. ranged (entry_fits players e && ltb entries 8000000) (line_ok (entry_made e)))) e h in
+    let j = judged_ok (entry_form words) (λ e. entry_fits players e && ltb entries 8000000) entry_made e b.1 in
+    let room = and_parts (entry_fits players j.0) (ltb entries 8000000) j.2 in
+    let fit = and_parts (leb j.0.0 1000000000 && leb j.0.1 255) (ltb j.0.3 players) room.0 in
     let low = and_parts (leb j.0.0 1000000000) (leb j.0.1 255) fit.0 in
-    subst (λ (e : Entry). (words ≡ entry_words e) × IsEntryOf players e) j.3 (entry_form_is words j.0 j.1, record { stamp_most = leb-true j.0.0 1000000000 low.0; pass_most = leb-true j.0.1 255 low.1; what = what_in_range players j.0.2 j.0.3 (ltb-true j.0.3 players fit.1) })
+    subst (λ (e : Entry). (words ≡ entry_words e) × IsEntryOf players e × (entries < 8000000)) j.3 (entry_form_is words j.0 j.1, record { stamp_most = leb-true j.0.0 1000000000 low.0; pass_most = leb-true j.0.1 255 low.1; what = what_in_range players j.0.2 j.0.3 (ltb-true j.0.3 players fit.1) }, ltb-true entries 8000000 room.1)
 
 -- what an entry did is read again
 kind_again : (did : What) (players : ℕ) → players ≤ 1000 → IsWhatOf players did → (kind : Kind) × (player : ℕ) × (what_form (what_words did) ≡ Some (kind, player)) × (what_made kind player ≡ did) × (player < players)
 unfolding what_form kind_of
 kind_again (what.Enter player) players most h = (Enter, player, rw (number_of-decimal player (omega (arith, h))) refl, refl, h)
+kind_again (what.Pause player) players most h = (Pause, player, rw (number_of-decimal player (omega (arith, h))) refl, refl, h)
 kind_again (what.Leave player) players most h = (Leave, player, rw (number_of-decimal player (omega (arith, h))) refl, refl, h)
 
 -- something stands behind the first words of an entry
 first_what : (word : List ℕ) (did : What) → first (word ∷ what_words did) ≡ Some (word, what_words did)
 first_what word (what.Enter player) = refl
+first_what word (what.Pause player) = refl
 first_what word (what.Leave player) = refl
 
--- the words of an entry in range say this entry
-pub entry_again : (players : ℕ) (e : Entry) → players ≤ 1000 → IsEntryOf players e → entry_in players (entry_words e) ≡ Ok e
-unfolding entry_in entry_form
-entry_again players e most h =
+-- no entry that is written has a kind that is not built
+what_built : (stamp pass : List ℕ) (did : What) → is_unbuilt (stamp ∷ pass ∷ what_words did) ≡ false
+unfolding is_unbuilt
+what_built stamp pass (what.Enter player) = and_right (is_some (number_of stamp) && is_some (number_of pass)) (begins_unbuilt (codes "enter")) refl
+what_built stamp pass (what.Pause player) = and_right (is_some (number_of stamp) && is_some (number_of pass)) (begins_unbuilt (codes "pause")) refl
+what_built stamp pass (what.Leave player) = and_right (is_some (number_of stamp) && is_some (number_of pass)) (begins_unbuilt (codes "leave")) refl
+
+-- an entry, at a type that shows
+abbrev entry_with : ℕ → ℕ → What → Entry
+entry_with stamp pass what = record { stamp = stamp; pass = pass; what = what }
+
+-- the words of an entry in range have its form
+pub entry_form_again : (players : ℕ) (e : Entry) → players ≤ 1000 → IsEntryOf players e → (values : ℕ × ℕ × Kind × ℕ) × (entry_form (entry_words e) ≡ Some values) × (entry_fits players values ≡ true) × (entry_made values ≡ e)
+unfolding entry_form
+entry_form_again players e most h =
     let did = kind_again e.what players most h.what in
-    let formed : entry_form (entry_words e) ≡ Some (e.stamp, e.pass, did.0, did.1) = rw (first_what (decimal e.pass) e.what, number_of-decimal e.stamp (omega (arith, h.stamp_most)), number_of-decimal e.pass (omega (arith, h.pass_most)), did.2) refl in
-    judged_again (entry_form (entry_words e)) (entry_fits players) entry_made (e.stamp, e.pass, did.0, did.1) formed (and_from (leb e.stamp 1000000000 && leb e.pass 255) (ltb did.1 players) (and_from (leb e.stamp 1000000000) (leb e.pass 255) (le-leb e.stamp 1000000000 h.stamp_most) (le-leb e.pass 255 h.pass_most)) (lt-ltb did.1 players did.4))
-    ∙ ap (λ (what : What). line_ok (record { stamp = e.stamp; pass = e.pass; what = what })) did.3
+    let values : ℕ × ℕ × Kind × ℕ = (e.stamp, e.pass, did.0, did.1) in
+    let formed : entry_form (entry_words e) ≡ Some values = rw (first_what (decimal e.pass) e.what, number_of-decimal e.stamp (omega (arith, h.stamp_most)), number_of-decimal e.pass (omega (arith, h.pass_most)), did.2) refl in
+    let fit : entry_fits players values ≡ true = and_from (leb e.stamp 1000000000 && leb e.pass 255) (ltb did.1 players) (and_from (leb e.stamp 1000000000) (leb e.pass 255) (le-leb e.stamp 1000000000 h.stamp_most) (le-leb e.pass 255 h.pass_most)) (lt-ltb did.1 players did.4) in
+    (values, formed, fit, ap (λ (what : What). entry_with e.stamp e.pass what) did.3)
+
+-- the words of an entry in range say this entry, where there is room for it
+pub entry_again : (players entries : ℕ) (e : Entry) → players ≤ 1000 → entries < 8000000 → IsEntryOf players e → entry_in players entries (entry_words e) ≡ Ok e
+unfolding entry_in
+entry_again players entries e most room h =
+    let f = entry_form_again players e most h in
+    rw (what_built (decimal e.stamp) (decimal e.pass) e.what, f.1, f.2, lt-ltb entries 8000000 room) (ap line_ok f.3)
 
 -- ---- the words of these lines
 
 -- what an entry did is made of words
 what_is_words : (players : ℕ) (did : What) → players ≤ 1000 → IsWhatOf players did → AllByRecursion IsWord (what_words did)
 what_is_words players (what.Enter player) most h = number_is_words (codes "enter") player (tested_word (codes "enter") refl) (omega (arith, h))
+what_is_words players (what.Pause player) most h = number_is_words (codes "pause") player (tested_word (codes "pause") refl) (omega (arith, h))
 what_is_words players (what.Leave player) most h = number_is_words (codes "leave") player (tested_word (codes "leave") refl) (omega (arith, h))
 
 -- an entry is made of words
@@ -127,23 +164,11 @@ end_is_words = (tested_word (codes "end") refl, tt)
 
 -- ---- what was written is read again
 
--- a decimal begins with a digit
-digit_front : (digits : List ℕ) → 0 < length digits → all_ascii_digits digits ≡ true → (digit : ℕ) × (more : List ℕ) × (digits ≡ digit ∷ more) × (digit ≤ 57)
-digit_front [] some all = absurd (omega arith)
-digit_front (digit ∷ digits) some all =
-    let parts = and_parts (is_ascii_digit digit) (all_ascii_digits digits) all in
-    let range = and_parts (leb 48 digit) (leb digit 57) parts.0 in
-    (digit, digits, refl, leb-true digit 57 range.1)
-
--- a decimal begins with a digit
-pub decimal_front : (n : ℕ) → n < 10 ^ 10 → (digit : ℕ) × (more : List ℕ) × (decimal n ≡ digit ∷ more) × (digit ≤ 57)
-decimal_front n small = digit_front (decimal n) (decimal_nonempty n (omega (arith, small))) (all_digits-decimal n small)
-
 -- no line of an entry is `end`
 not_end : (n : ℕ) (more : List ℕ) → n < 10 ^ 10 → bytes_eq (decimal n ++ more) (codes "end") ≡ false
 not_end n more small =
     let front = decimal_front n small in
-    let other : eqb front.0 101 ≡ false = ne_eqb front.0 101 (λ same. omega (arith, front.3)) in
+    let other : eqb front.0 101 ≡ false = ne_eqb front.0 101 (λ same. omega (arith, front.4)) in
     rw (front.2, other) refl
 
 -- what reading answers for these entries
@@ -151,29 +176,28 @@ abbrev entries_read : List Entry → List (List ℕ) → Result (List Entry × L
 entries_read entries lines = Ok (entries, lines)
 
 -- entries that were written are read again, behind those that were read before
-pub entries_again : (players : ℕ) (es sofar : List Entry) (rest : List ℕ) → players ≤ 1000 → length (sofar ++ es) ≤ 8000000 → AllByRecursion (IsEntryOf players) es
-    → entries_in players sofar (lines_of (flat_map entry_line es ++ (line (codes "end" ∷ []) ++ rest))) ≡ Ok (sofar ++ es, lines_of rest)
+pub entries_again : (teams players : ℕ) (es sofar : List Entry) (rest : List ℕ) → players ≤ 1000 → length (sofar ++ es) ≤ 8000000 → AllByRecursion (IsEntryOf players) es
+    → entries_in teams players sofar (lines_of (flat_map entry_line es ++ (line (codes "end" ∷ []) ++ rest))) ≡ Ok (sofar ++ es, lines_of rest)
 unfolding entry_line
-entries_again players [] sofar rest few most each =
-    entries_step players sofar (lines_of (line (codes "end" ∷ []) ++ rest))
-    ∙ rw (next-line (codes "end" ∷ []) rest end_is_words, append-nil sofar) refl
-entries_again players (e ∷ es) sofar rest few most each =
+entries_again teams players [] sofar rest few most each =
+    entries_step teams players sofar (lines_of (line (codes "end" ∷ []) ++ rest))
+    ∙ rw (next-line (entry_place teams players sofar) (codes "end" ∷ []) rest end_is_words, append-nil sofar) refl
+entries_again teams players (e ∷ es) sofar rest few most each =
     let tail = flat_map entry_line es ++ (line (codes "end" ∷ []) ++ rest) in
     let words = entry_is_words players e few each.0 in
     let room : length sofar < 8000000 = omega (arith, most, length-append sofar (e ∷ es)) in
     let same = append_assoc sofar (e ∷ []) es in
-    let stepped : entries_in players sofar (lines_of (entry_line e ++ tail)) ≡ entries_in players (sofar ++ e ∷ []) (lines_of tail) =
-    entries_step players sofar (lines_of (entry_line e ++ tail))
+    let stepped : entries_in teams players sofar (lines_of (entry_line e ++ tail)) ≡ entries_in teams players (sofar ++ e ∷ []) (lines_of tail) =
+    entries_step teams players sofar (lines_of (entry_line e ++ tail))
     ∙ rw (
-      next-line (entry_words e) tail words,
+      next-line (entry_place teams players sofar) (entry_words e) tail words,
       not_end e.stamp _ (omega (arith, each.0.stamp_most)),
       words_of-spaced (decimal e.stamp) _ words,
-      entry_again players e few each.0,
-      lt-ltb (length sofar) 8000000 room,
+      entry_again players (length sofar) e few room each.0,
     ) refl in
-    ap (λ (text : List ℕ). entries_in players sofar (lines_of text)) (append_assoc (entry_line e) (flat_map entry_line es) (line (codes "end" ∷ []) ++ rest))
+    ap (λ (text : List ℕ). entries_in teams players sofar (lines_of text)) (append_assoc (entry_line e) (flat_map entry_line es) (line (codes "end" ∷ []) ++ rest))
     ∙ stepped
-    ∙ entries_again players es (sofar ++ e ∷ []) rest few (subst (λ (xs : List Entry). length xs ≤ 8000000) (sym same) most) each.1
+    ∙ entries_again teams players es (sofar ++ e ∷ []) rest few (subst (λ (xs : List Entry). length xs ≤ 8000000) (sym same) most) each.1
     ∙ ap (λ (xs : List Entry). entries_read xs (lines_of rest)) same
 
 -- ---- what is read was written so
@@ -213,29 +237,21 @@ entries_more bytes behind players sofar e r same rest = record {
   good = rest.good;
 }
 
--- the entry was let pass
-guard_follows : (b : Bool) → cond b passed (Err Form) ≡ passed → b ≡ true
-guard_follows true e = refl
-guard_follows false e = absurd cc
-
--- an entry in range may follow where there is room
-one_more_entry : (players : ℕ) (entries : List Entry) (e : Entry) → AreEntries players entries → IsEntryOf players e → follows (length entries) ≡ Ok tt → AreEntries players (entries ++ e ∷ [])
-one_more_entry players entries e h good room =
-    let below : length entries < 8000000 = ltb-true (length entries) 8000000 (guard_follows (ltb (length entries) 8000000) room) in
-    record { most = omega (arith, length_push entries e); good = All-push (IsEntryOf players) entries e h.good good }
+-- an entry in range is one more where there is room
+one_more_entry : (players : ℕ) (entries : List Entry) (e : Entry) → AreEntries players entries → IsEntryOf players e → length entries < 8000000 → AreEntries players (entries ++ e ∷ [])
+one_more_entry players entries e h good room = record { most = omega (arith, room, length_push entries e); good = All-push (IsEntryOf players) entries e h.good good }
 
 -- entries that are read were written so
-pub entries_take : (players : ℕ) (lines : List (List ℕ)) (sofar : List Entry) (r : List Entry × List (List ℕ)) → AreEntries players sofar → entries_in players sofar lines ≡ Ok r → TakesEntries (joined lines) players sofar r
+pub entries_take : (teams players : ℕ) (lines : List (List ℕ)) (sofar : List Entry) (r : List Entry × List (List ℕ)) → AreEntries players sofar → entries_in teams players sofar lines ≡ Ok r → TakesEntries (joined lines) players sofar r
 unfolding entries_in
-entries_take players [] sofar r h e = absurd cc
-entries_take players (rest ∷ []) sofar r h e = absurd cc
-entries_take players (bytes ∷ after ∷ more) sofar r h e =
+entries_take teams players [] sofar r h e = absurd cc
+entries_take teams players (rest ∷ []) sofar r h e = absurd cc
+entries_take teams players (bytes ∷ after ∷ more) sofar r h e =
     elim (cases_Bool (bytes_eq bytes (codes "end"))) [
       | inl end ↦
           subst (TakesEntries (joined (bytes ∷ after ∷ more)) players sofar) (text_ok_is (sofar, after ∷ more) r (rw end at e)) (entries_ended bytes (after ∷ more) players sofar h ((bytes_eq-Decides bytes (codes "end")).0 end))
       | inr other ↦
-          let x = bind_ok (at_line (entry_in players (words_of bytes))) (λ x. at_line (follows (length sofar)) >> entries_in players (sofar ++ x ∷ []) (after ∷ more)) r (rw other at e) in
-          let t = then_ok (follows (length sofar)) (entries_in players (sofar ++ x.0 ∷ []) (after ∷ more)) r x.2 in
-          let said = entry_takes players (words_of bytes) x.0 (at_line_ok (entry_in players (words_of bytes)) x.0 x.1) in
-          entries_more bytes (after ∷ more) players sofar x.0 r (spelled_words bytes (entry_words x.0) said.0) (entries_take players (after ∷ more) (sofar ++ x.0 ∷ []) r (one_more_entry players sofar x.0 h said.1 t.0) t.1)
+          let x = bind_ok (at_line (entry_place teams players sofar) (entry_in players (length sofar) (words_of bytes))) (λ x. entries_in teams players (sofar ++ x ∷ []) (after ∷ more)) r (rw other at e) in
+          let said = entry_takes players (length sofar) (words_of bytes) x.0 (at_line_ok (entry_place teams players sofar) (entry_in players (length sofar) (words_of bytes)) x.0 x.1) in
+          entries_more bytes (after ∷ more) players sofar x.0 r (spelled_words bytes (entry_words x.0) said.0) (entries_take teams players (after ∷ more) (sofar ++ x.0 ∷ []) r (one_more_entry players sofar x.0 h said.1 said.2) x.2)
     ]

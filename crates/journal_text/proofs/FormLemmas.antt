@@ -1,10 +1,13 @@
 -- A line that has a form has just the words of this form.
-use Rattle.std.proofs.Common.{◌≡◌, ℕ, true, cond, List, [], ◌∷◌, Option, Some, None, option_and_then, refl, ap, subst}
+use Rattle.std.proofs.Common.{◌≡◌, ℕ, ◌^◌, ◌<◌, ◌≤◌, leb, true, cond, List, [], ◌∷◌, length, Option, Some, None, option_and_then, refl, ap, subst, arith}
+use Rattle.std.specs.Char.{is_ascii_digit}
 use Rattle.std.specs.Fmt.{decimal}
-use Rattle.std.specs.Str.{bytes_eq}
+use Rattle.std.specs.Str.{bytes_eq, all_ascii_digits}
+use Rattle.std.proofs.lemmas.Bool.{and_parts, leb-true}
+use Rattle.std.proofs.lemmas.Fmt.{decimal_nonempty}
 use Rattle.std.proofs.lemmas.Slice.Eq.{bytes_eq-Decides}
 use Rattle.decimals.specs.Decimals.{number_of}
-use Rattle.decimals.proofs.DecimalLemmas.{number_of-says}
+use Rattle.decimals.proofs.DecimalLemmas.{number_of-says, all_digits-decimal}
 use Rattle.journal_text.specs.Lines.{first, two, three, four}
 use Rattle.journal_text.proofs.Fails.{bind_some, guard_some, some, some_is}
 
@@ -79,3 +82,15 @@ three_same a b c x y z p q r = cc
 -- and so are four words
 pub four_same : (a b c d x y z t : List ℕ) → a ≡ x → b ≡ y → c ≡ z → d ≡ t → a ∷ b ∷ c ∷ d ∷ [] ≡ x ∷ y ∷ z ∷ t ∷ []
 four_same a b c d x y z t p q r s = cc
+
+-- a decimal begins with a digit
+digit_front : (digits : List ℕ) → 0 < length digits → all_ascii_digits digits ≡ true → (digit : ℕ) × (more : List ℕ) × (digits ≡ digit ∷ more) × (48 ≤ digit) × (digit ≤ 57)
+digit_front [] some all = absurd (omega arith)
+digit_front (digit ∷ digits) some all =
+    let parts = and_parts (is_ascii_digit digit) (all_ascii_digits digits) all in
+    let range = and_parts (leb 48 digit) (leb digit 57) parts.0 in
+    (digit, digits, refl, leb-true 48 digit range.0, leb-true digit 57 range.1)
+
+-- a decimal begins with a digit
+pub decimal_front : (n : ℕ) → n < 10 ^ 10 → (digit : ℕ) × (more : List ℕ) × (decimal n ≡ digit ∷ more) × (48 ≤ digit) × (digit ≤ 57)
+decimal_front n small = digit_front (decimal n) (decimal_nonempty n (omega (arith, small))) (all_digits-decimal n small)

@@ -12,11 +12,12 @@ use Rattle.decimals.proofs.DecimalLemmas.{number_of-decimal}
 use Rattle.entries.specs.Ranges.{IsControl, IsGood}
 use Rattle.entries.specs.declared.setup.Control.{Control}
 use Rattle.entries.specs.declared.setup.Setup.{Setup}
+use Rattle.journal_text.specs.declared.fault.JournalCause.TheVariants.{Form}
 use Rattle.journal_text.specs.declared.head.Head.{Head}
 use Rattle.journal_text.specs.Lines.{line, lines_of, words_of, two, three, four}
 use Rattle.journal_text.specs.Text.{version_line, control_line, window_line, wave_line, leaders_line}
 use Rattle.journal_text.specs.Forms.{number_form, number_in, is_within, control_form, control_fits, control_made, control_in, window_form, window_fits, window_in}
-use Rattle.journal_text.specs.Reading.{next, head_in}
+use Rattle.journal_text.specs.Reading.{fault_at, next, head_in}
 use Rattle.journal_text.proofs.Fails.{bind_some, guard_some, some, line_ok, judged_ok, judged_again, text_ok_is, bind_ok, guard_ok}
 use Rattle.journal_text.proofs.FormLemmas.{same_word, word_itself, two_is, three_is, four_is, keyed_four, keyed_three, two_numbers, three_numbers, decimal_is, three_same, four_same}
 use Rattle.journal_text.proofs.WordLemmas.{IsWord, tested_word, words_of-spaced, next-line, IsWord-decimal}
@@ -165,17 +166,17 @@ head_again s rest h =
     let wave_words_are = number_is_words (codes "wave") s.wave_ms (tested_word (codes "wave") refl) wave in
     let leaders_words_are = number_is_words (codes "leaders") s.leaders (tested_word (codes "leaders") refl) leaders in
     rw (
-      next-line (codes "arena" ∷ codes "1" ∷ []) (control_line s.control ++ (window_line s ++ (wave_line s ++ (leaders_line s ++ rest)))) version_is_words,
-      next-line (control_words s.control) (window_line s ++ (wave_line s ++ (leaders_line s ++ rest))) control_words_are,
+      next-line 1 (codes "arena" ∷ codes "1" ∷ []) (control_line s.control ++ (window_line s ++ (wave_line s ++ (leaders_line s ++ rest)))) version_is_words,
+      next-line 2 (control_words s.control) (window_line s ++ (wave_line s ++ (leaders_line s ++ rest))) control_words_are,
       words_of-spaced (codes "control") _ control_words_are,
       control_again s.control h.timed,
-      next-line (window_words (s.starts, s.ends)) (wave_line s ++ (leaders_line s ++ rest)) window_words_are,
+      next-line 3 (window_words (s.starts, s.ends)) (wave_line s ++ (leaders_line s ++ rest)) window_words_are,
       words_of-spaced (codes "window") _ window_words_are,
       window_again s.starts s.ends h.opens_before_end h.ends_most,
-      next-line (codes "wave" ∷ decimal s.wave_ms ∷ []) (leaders_line s ++ rest) wave_words_are,
+      next-line 4 (codes "wave" ∷ decimal s.wave_ms ∷ []) (leaders_line s ++ rest) wave_words_are,
       words_of-spaced (codes "wave") _ wave_words_are,
       number_again (codes "wave") 100 600000 s.wave_ms wave h.wave_least h.wave_most,
-      next-line (codes "leaders" ∷ decimal s.leaders ∷ []) rest leaders_words_are,
+      next-line 5 (codes "leaders" ∷ decimal s.leaders ∷ []) rest leaders_words_are,
       words_of-spaced (codes "leaders") _ leaders_words_are,
       number_again (codes "leaders") 1 20 s.leaders leaders h.leaders_least h.leaders_most,
     ) refl
@@ -201,19 +202,19 @@ five_lines : (h : Head) (a b c d e f : List ℕ) → a ≡ line (codes "arena" �
 five_lines h a b c d e f p q r s t = rw (p, q, r, s, t) refl
 
 -- the first line is that of the version
-version_takes : (lines : List (List ℕ)) (n : List ℕ × List (List ℕ)) → next lines ≡ Ok n → bytes_eq n.0 (codes "arena 1") ≡ true → joined lines ≡ line (codes "arena" ∷ codes "1" ∷ []) ++ joined n.1
-version_takes lines n e is = next_takes lines n e ∙ ap (λ (bytes : List ℕ). bytes ++ (10 ∷ joined n.1)) ((bytes_eq-Decides n.0 (codes "arena 1")).0 is)
+version_takes : (lines : List (List ℕ)) (n : List ℕ × List (List ℕ)) → next 1 lines ≡ Ok n → bytes_eq n.0 (codes "arena 1") ≡ true → joined lines ≡ line (codes "arena" ∷ codes "1" ∷ []) ++ joined n.1
+version_takes lines n e is = next_takes 1 lines n e ∙ ap (λ (bytes : List ℕ). bytes ++ (10 ∷ joined n.1)) ((bytes_eq-Decides n.0 (codes "arena 1")).0 is)
 
 -- what is read of these lines was written so, and is in range
 pub head_takes : (lines : List (List ℕ)) (r : Head × List (List ℕ)) → head_in lines ≡ Ok r → (joined lines ≡ head_text r.0 (joined r.1)) × IsHead r.0
 unfolding head_in
 head_takes lines r e =
-    let v = bind_ok (next lines) _ r e in
-    let a = guard_ok (bytes_eq v.0.0 (codes "arena 1")) _ r v.2 in
-    let c = line_read v.0.1 control_in _ r a.1 in
-    let w = line_read c.0.1 window_in _ r c.4 in
-    let i = line_read w.0.1 (number_in (codes "wave") 100 600000) _ r w.4 in
-    let l = line_read i.0.1 (number_in (codes "leaders") 1 20) _ r i.4 in
+    let v = bind_ok (next 1 lines) _ r e in
+    let a = guard_ok (bytes_eq v.0.0 (codes "arena 1")) _ (fault_at 1 Form) r v.2 in
+    let c = line_read 2 v.0.1 control_in _ r a.1 in
+    let w = line_read 3 c.0.1 window_in _ r c.4 in
+    let i = line_read 4 w.0.1 (number_in (codes "wave") 100 600000) _ r w.4 in
+    let l = line_read 5 i.0.1 (number_in (codes "leaders") 1 20) _ r i.4 in
     let control = control_takes (words_of c.0.0) c.1 c.3 in
     let window = window_takes (words_of w.0.0) w.1 w.3 in
     let wave = number_takes (codes "wave") 100 600000 (words_of i.0.0) i.1 i.3 in
@@ -221,9 +222,9 @@ head_takes lines r e =
     let h : Head = record { control = c.1; starts = w.1.0; ends = w.1.1; wave_ms = i.1; leaders = l.1 } in
     let text = five_lines h (joined lines) (joined v.0.1) (joined c.0.1) (joined w.0.1) (joined i.0.1) (joined l.0.1)
     (version_takes lines v.0 v.1 a.0)
-    (line_takes v.0.1 c.0 (control_words c.1) c.2 control.0)
-    (line_takes c.0.1 w.0 (window_words w.1) w.2 window.0)
-    (line_takes w.0.1 i.0 (codes "wave" ∷ decimal i.1 ∷ []) i.2 wave.0)
-    (line_takes i.0.1 l.0 (codes "leaders" ∷ decimal l.1 ∷ []) l.2 leaders.0) in
+    (line_takes 2 v.0.1 c.0 (control_words c.1) c.2 control.0)
+    (line_takes 3 c.0.1 w.0 (window_words w.1) w.2 window.0)
+    (line_takes 4 w.0.1 i.0 (codes "wave" ∷ decimal i.1 ∷ []) i.2 wave.0)
+    (line_takes 5 i.0.1 l.0 (codes "leaders" ∷ decimal l.1 ∷ []) l.2 leaders.0) in
     let range : IsHead h = record { timed = control.1; opens_before_end = window.1; ends_most = window.2; wave_least = wave.1; wave_most = wave.2; leaders_least = leaders.1; leaders_most = leaders.2 } in
     subst (λ (r : Head × List (List ℕ)). (joined lines ≡ head_text r.0 (joined r.1)) × IsHead r.0) (text_ok_is (h, l.0.1) r l.4) (text, range)

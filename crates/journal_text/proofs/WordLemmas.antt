@@ -1,5 +1,5 @@
 -- A line that is made of words falls into these words again, and a text of lines into these lines.
-use Rattle.std.proofs.Common.{◌≡◌, ℕ, ◌^◌, ◌<◌, ◌≤◌, true, false, eqb, ltb, List, [], ◌∷◌, ◌++◌, All, refl, ap, ◌∙◌, append_assoc, arith, Ok}
+use Rattle.std.proofs.Common.{◌≡◌, ℕ, ◌^◌, ◌<◌, ◌≤◌, true, false, eqb, leb, ltb, ◌&&◌, length, List, [], ◌∷◌, ◌++◌, All, refl, ap, ◌∙◌, append_assoc, arith, Ok, Some}
 use Rattle.std.specs.Char.{is_ascii_digit}
 use Rattle.std.specs.Fmt.{decimal}
 use Rattle.std.specs.List.{AllByRecursion, list_all}
@@ -7,10 +7,11 @@ use Rattle.std.specs.Str.{all_ascii_digits}
 use Rattle.std.proofs.lemmas.Bool.{and_parts, ltb-true, ne_eqb}
 use Rattle.std.proofs.lemmas.Bool.Decides.{nat_tests}
 use Rattle.std.proofs.lemmas.List.Elements.{All-nil, All-cons, recursion_from_All}
+use Rattle.std.proofs.lemmas.List.Sums.{AllPass-from_list_all}
 use Rattle.std.proofs.lemmas.List.Splits.{slice_split_none, slice_split_at}
 use Rattle.decimals.proofs.DecimalLemmas.{all_digits-decimal}
 use Rattle.entries.specs.Names.{is_name_byte, IsName}
-use Rattle.journal_text.specs.Lines.{spaced, line, lines_of, words_of}
+use Rattle.journal_text.specs.Lines.{spaced, line, lines_of, words_of, first}
 use Rattle.journal_text.specs.Reading.{next}
 use Rattle.journal_text.proofs.LineLemmas.{first-cons}
 
@@ -56,9 +57,13 @@ lines_of-line words rest each =
     ap lines_of (append_assoc (spaced words) (10 ∷ []) rest)
     ∙ slice_split_at (λ b. eqb b 10) (spaced words) 10 rest (lacks 10 31 (spaced words) (omega arith) (AllAbove-spaced words each)) refl
 
+-- a line of words is the first part of such a text
+pub first-line : (words : List (List ℕ)) (rest : List ℕ) → AllByRecursion IsWord words → first (lines_of (line words ++ rest)) ≡ Some (spaced words, lines_of rest)
+first-line words rest each = rw (lines_of-line words rest each) (first-cons 10 (spaced words) rest)
+
 -- a line of words is the next one of a text that begins with it
-pub next-line : (words : List (List ℕ)) (rest : List ℕ) → AllByRecursion IsWord words → next (lines_of (line words ++ rest)) ≡ Ok (spaced words, lines_of rest)
-next-line words rest each = rw (lines_of-line words rest each, first-cons 10 (spaced words) rest) refl
+pub next-line : (number : ℕ) (words : List (List ℕ)) (rest : List ℕ) → AllByRecursion IsWord words → next number (lines_of (line words ++ rest)) ≡ Ok (spaced words, lines_of rest)
+next-line number words rest each = rw (lines_of-line words rest each, first-cons 10 (spaced words) rest) refl
 
 -- a word that is known is tested byte by byte
 pub tested_word : (word : List ℕ) → list_all (λ b. ltb 32 b) word ≡ true → IsWord word
@@ -87,4 +92,6 @@ names_above (b ∷ name) all = (name_byte_above b all.0, names_above name all.1)
 
 -- a name is a word
 pub IsWord-name : (name : List ℕ) → IsName name → IsWord name
-IsWord-name name named = names_above name (recursion_from_All (λ b. is_name_byte b ≡ true) name named.2)
+IsWord-name name named =
+    let parts = and_parts (leb 1 (length name) && leb (length name) 20) (list_all is_name_byte name) named in
+    names_above name (recursion_from_All (λ b. is_name_byte b ≡ true) name (AllPass-from_list_all is_name_byte name parts.1))

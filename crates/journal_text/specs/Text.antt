@@ -1,12 +1,12 @@
 -- The text of a journal, line by line.
-use Rattle.std.specs.Prelude.{◌≡◌, ℕ, ◌/◌, List, [], ◌∷◌, ◌++◌, Option, None, Some, codes}
+use Rattle.std.specs.Prelude.{◌≡◌, ℕ, ◌+◌, ◌/◌, length, List, [], ◌∷◌, ◌++◌, Option, None, Some, codes}
 use Rattle.std.specs.List.{flat_map}
 use Rattle.std.specs.Fmt.{decimal}
 use Rattle.entries.specs.declared.setup.Control.{Control}
 use Rattle.entries.specs.declared.setup.Player.{Player}
 use Rattle.entries.specs.declared.setup.Setup.{Setup}
 use Rattle.entries.specs.declared.journal.What.{What}
-use Rattle.entries.specs.declared.journal.What.TheVariants.{Enter, Leave}
+use Rattle.entries.specs.declared.journal.What.TheVariants.{Enter, Pause, Leave}
 use Rattle.entries.specs.declared.journal.Entry.{Entry}
 use Rattle.entries.specs.declared.journal.Journal.{Journal}
 use Rattle.entries.specs.Ranges.{IsWritable}
@@ -45,9 +45,10 @@ team_word (Some team) = decimal team
 unfoldable pub player_line : Player → List ℕ
 player_line p = line (codes "player" ∷ decimal p.rating ∷ team_word p.team ∷ p.name ∷ [])
 
--- what an entry did, as `enter P` or `leave P`
+-- what an entry did, as `enter P`, `pause P` or `leave P`
 abbrev pub what_words : What → List (List ℕ)
 what_words (Enter player) = codes "enter" ∷ decimal player ∷ []
+what_words (Pause player) = codes "pause" ∷ decimal player ∷ []
 what_words (Leave player) = codes "leave" ∷ decimal player ∷ []
 
 -- the words of an entry: `STAMP PASS`, and what it did
@@ -79,6 +80,6 @@ pub record Spells (bytes : List ℕ) (j : Journal) : Type 0 where
   pub writable : IsWritable j
   pub text : text_of j ≡ bytes
 
--- the arena has no teams: as long as teams are not built, texts with team lines are not read
-abbrev pub HasNoTeams : Journal → Type 0
-HasNoTeams j = j.setup.teams ≡ []
+-- the line of a journal's text on which an entry stands, by its place among the entries, from 0: lines count from 1
+abbrev pub line_of_entry : Setup → ℕ → ℕ
+line_of_entry s place = 7 + length s.teams + length s.players + place

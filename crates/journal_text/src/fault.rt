@@ -2,24 +2,32 @@
 
 ghost use Rattle.std.specs.Prelude.{◌≡◌};
 ghost use Rattle.journal_text.specs.declared.fault.ReadJournalFault.TheVariants.{Bad, OutOfMemory};
-ghost use Rattle.journal_text.specs.Reading.{fault_of};
+ghost use Rattle.journal_text.specs.Reading.{at_line, fault_at};
 
 use std::alloc::{AllocError, AllocFailed};
 
-/// What is wrong with a text.
+/// Why a line cannot stand: the first of these that holds of it.
 #[derive(Clone, Copy, Debug, PartialEq, Eq)]
 pub enum JournalCause {
-    /// A line of the text begins as one of a kind that is not built yet: a team, or an entry of another kind than
-    /// `enter` and `leave`.
-    NotBuilt,
-    /// There is no such line, and the text is that of no journal.
+    /// The text has no further line feed: the line is missing or unfinished.
+    Ended,
+    /// The line is in no form that its place allows. The whole line's form comes before the range of any number in it.
     Form,
+    /// The line has the form of a kind of entry that is not built yet: two canonical decimals, then `act`, `tick` or `wave`,
+    /// and anything behind.
+    NotBuilt,
+    /// A number of the line is out of its range, or the line is one more of its kind than a journal has.
+    Range,
+    /// The name of the team, or of the player, stood on a line of a team, or of a player, before.
+    Repeat,
+    /// Something stands behind the line `end`.
+    After,
 }
 
 /// What is wrong with a text, and where.
 #[derive(Clone, Copy, Debug, PartialEq, Eq)]
 pub struct JournalFault {
-    /// Always 0 as yet: it names no line.
+    /// The first line that cannot stand. Lines count from 1.
     pub line: u64,
     pub cause: JournalCause,
 }
@@ -29,7 +37,7 @@ pub struct JournalFault {
 pub enum ReadJournalFault {
     /// The text is that of no journal.
     Bad(JournalFault),
-    /// There was no room for the players or the entries. It says nothing of the text.
+    /// There was no room for the names, the players or the entries. It says nothing of the text.
     OutOfMemory,
 }
 
@@ -57,9 +65,19 @@ impl<T: Drop> From<AllocFailed<T>> for ReadJournalFault {
     }
 }
 
-/// The fault of a line that cannot stand.
-pub(crate) fn fault_of(cause: JournalCause) -> JournalFault
-    ensures { result ≡ fault_of cause }
+/// The fault of a line, of this cause.
+pub(crate) fn fault_at(line: u64, cause: JournalCause) -> JournalFault
+    ensures { result ≡ fault_at line cause }
 {
-    JournalFault { line: 0, cause }
+    JournalFault { line, cause }
+}
+
+/// What this line says, or the fault of it.
+pub(crate) fn at_line<T>(line: u64, said: Result<T, JournalCause>) -> Result<T, JournalFault>
+    ensures { result ≡ at_line line said }
+{
+    match said {
+        Ok(said) => Ok(said),
+        Err(cause) => Err(fault_at(line, cause)),
+    }
 }

@@ -1,15 +1,15 @@
-//! The lines of a journal before its first player.
+//! The lines of a journal before its teams and players.
 
 ghost use Rattle.std.specs.Prelude.{◌≡◌, ◌≤◌, IfOk, codes};
 ghost use Rattle.journal_text.specs.Lines.{lines_of, words_of};
 ghost use Rattle.journal_text.specs.Forms.{number_form, number_in, control_form, control_fits, control_in, window_form, window_in};
 ghost use Rattle.journal_text.specs.Reading.{Shows, head_in};
 
-use crate::fault::{JournalCause, JournalFault, fault_of};
+use crate::fault::{JournalCause, JournalFault, at_line, fault_at};
 use crate::lines::{four_words, next_line, three_words, two_words};
 use entries::Control;
 
-/// What the lines before the first player say.
+/// What the lines before the teams say.
 #[derive(Clone, Copy, Debug)]
 pub(crate) struct Head {
     pub(crate) control: Control,
@@ -41,7 +41,7 @@ fn number(line: &[u8], word: &[u8], least: u64, most: u64) -> Result<u64, Journa
     if least <= n && n <= most {
         Ok(n)
     } else {
-        Err(JournalCause::Form)
+        Err(JournalCause::Range)
     }
 }
 
@@ -92,7 +92,7 @@ fn control(line: &[u8]) -> Result<Control, JournalCause>
             first_ms: opening,
         })
     } else {
-        Err(JournalCause::Form)
+        Err(JournalCause::Range)
     }
 }
 
@@ -119,27 +119,27 @@ fn window(line: &[u8]) -> Result<(u64, u64), JournalCause>
     if starts < ends && ends <= 900_000_000 {
         Ok((starts, ends))
     } else {
-        Err(JournalCause::Form)
+        Err(JournalCause::Range)
     }
 }
 
-/// What the lines before the first player say, and the text behind them.
+/// What the lines before the teams say, and the text behind them.
 #[tactic(auto, unfolding(crate::specs::Reading::head_in))]
 pub(crate) fn head_of(text: &[u8]) -> Result<(Head, &[u8]), JournalFault>
     ensures { Shows (λ read. (read.0, lines_of read.1.now)) result (head_in (lines_of text.now)) }
 {
-    let (line, rest) = next_line(text)?;
+    let (line, rest) = next_line(text, 1)?;
     if line != b"arena 1".as_slice() {
-        return Err(fault_of(JournalCause::Form));
+        return Err(fault_at(1, JournalCause::Form));
     }
-    let (line, rest) = next_line(rest)?;
-    let control = control(line).map_err(fault_of)?;
-    let (line, rest) = next_line(rest)?;
-    let (starts, ends) = window(line).map_err(fault_of)?;
-    let (line, rest) = next_line(rest)?;
-    let wave_ms = number(line, b"wave", 100, 600_000).map_err(fault_of)?;
-    let (line, rest) = next_line(rest)?;
-    let leaders = leaders(line).map_err(fault_of)?;
+    let (line, rest) = next_line(rest, 2)?;
+    let control = at_line(2, control(line))?;
+    let (line, rest) = next_line(rest, 3)?;
+    let (starts, ends) = at_line(3, window(line))?;
+    let (line, rest) = next_line(rest, 4)?;
+    let wave_ms = at_line(4, number(line, b"wave", 100, 600_000))?;
+    let (line, rest) = next_line(rest, 5)?;
+    let leaders = at_line(5, leaders(line))?;
     Ok((
         Head {
             control,

@@ -1,6 +1,7 @@
-//! The text of a journal, read exactly: the journal that a text spells, or why it spells none. The layers above rely on
-//! `specs/Text.antt`, which writes a journal line by line: what is read has this text, byte for byte, and what has it is
-//! read unless memory runs out.
+//! The text of a journal, read and written exactly: the journal that a text spells, or the first line that cannot stand
+//! and why. The layers above rely on two pages. `specs/Text.antt` writes a journal line by line: what is read or written
+//! has this text, byte for byte, and what has it is read unless memory runs out. `specs/Faults.antt` says of each line
+//! which cause holds of it first behind the lines before it.
 #![tactic(auto)]
 
 mod entry_lines;
@@ -9,10 +10,14 @@ mod head;
 mod lines;
 mod players;
 mod read;
-mod unbuilt;
+mod teams;
+mod write;
 
 pub use fault::{JournalCause, JournalFault, ReadJournalFault};
-pub use read::{one_journal, read_journal};
+pub use read::{
+    first_that_cannot_stand, journal_or_fault, one_journal, place_of_entry, read_journal,
+};
+pub use write::{write_entry, write_journal};
 
 #[cfg(test)]
 mod tests;

@@ -4,7 +4,7 @@ ghost use Rattle.std.specs.Prelude.{◌≡◌, ◌<◌, ◌==◌, ◌∷◌, [],
 ghost use Rattle.journal_text.specs.Lines.{parts_of, lines_of, words_of, first, one, two, three, four};
 ghost use Rattle.journal_text.specs.Reading.{Shows, next};
 
-use crate::fault::{JournalCause, JournalFault, fault_of};
+use crate::fault::{JournalCause, JournalFault, fault_at};
 
 /// Where the byte stands first.
 fn place_of(bytes: &[u8], byte: u8) -> Option<usize>
@@ -62,13 +62,13 @@ pub(crate) fn four_words(line: &[u8]) -> Option<(&[u8], &[u8], &[u8], &[u8])>
     Some((first, second, third, fourth))
 }
 
-/// The next line, and the text behind it.
-pub(crate) fn next_line(text: &[u8]) -> Result<(&[u8], &[u8]), JournalFault>
-    ensures parts { Shows (λ cut. (cut.0.now, lines_of cut.1.now)) result (next (lines_of text.now)) }
+/// The next line, which has this number, and the text behind it.
+pub(crate) fn next_line(text: &[u8], number: u64) -> Result<(&[u8], &[u8]), JournalFault>
+    ensures parts { Shows (λ cut. (cut.0.now, lines_of cut.1.now)) result (next number (lines_of text.now)) }
     ensures shorter { IfOk result (λ cut. length cut.1.now < length text.now) }
 {
     match cut(text, b'\n') {
-        None => Err(fault_of(JournalCause::Form)),
+        None => Err(fault_at(number, JournalCause::Ended)),
         Some((line, rest)) => Ok((line, rest)),
     }
 }

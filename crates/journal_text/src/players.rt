@@ -1,43 +1,23 @@
 //! The lines of a journal's players.
 
-ghost use Rattle.std.specs.Prelude.{◌≡◌, ◌≤◌, [], None, IfOk, option_map, vec_len};
-ghost use Rattle.std.specs.List.{list_all};
-ghost use Rattle.entries.specs.Names.{is_name_byte};
+ghost use Rattle.std.specs.Prelude.{◌≡◌, ◌<◌, ◌≤◌, [], Some, None, IfOk, if◌then◌else◌, length, option_map, vec_len};
+ghost use Rattle.std.specs.List.{list_any};
+ghost use Rattle.std.specs.Str.{bytes_eq};
+ghost use Rattle.entries.specs.declared.setup.Player.{Player};
 ghost use Rattle.journal_text.specs.Lines.{lines_of, words_of};
-ghost use Rattle.journal_text.specs.Forms.{is_name, team_form, player_form, player_in};
-ghost use Rattle.journal_text.specs.Reading.{Shows, Gives, is_taken, joins, begun, players_in};
+ghost use Rattle.journal_text.specs.Forms.{is_taken, membership_form, membership_fits, player_form, player_in};
+ghost use Rattle.journal_text.specs.Reading.{Shows, Gives, names_of, players_in};
 
-use crate::fault::{JournalCause, ReadJournalFault, fault_of};
+use crate::fault::{JournalCause, ReadJournalFault, at_line, fault_at};
 use crate::lines::{four_words, next_line};
 use conn::Text;
-use entries::Player;
+use entries::{Player, is_name};
 use std::alloc::Global;
 
-/// Whether the byte may stand in a name.
-fn is_name_byte(byte: u8) -> bool
-    ensures { result ≡ is_name_byte byte }
-{
-    byte.is_ascii_alphanumeric() || byte == b'_' || byte == b'-'
-}
-
-/// Whether each byte may stand in a name.
-fn are_name_bytes(word: &[u8]) -> bool
-    ensures { result ≡ list_all is_name_byte word.now }
-{
-    word.iter().all(|byte| is_name_byte(*byte))
-}
-
-/// Whether the word is a name.
-fn is_name(word: &[u8]) -> bool
-    ensures { result ≡ is_name word.now }
-{
-    1 <= word.len() && word.len() <= 20 && are_name_bytes(word)
-}
-
 /// The number of a player's team, whatever its range, or none.
-#[tactic(auto, unfolding(crate::specs::Forms::team_form))]
-fn team_form(word: &[u8]) -> Option<Option<u64>>
-    ensures { result ≡ team_form word.now }
+#[tactic(auto, unfolding(crate::specs::Forms::membership_form))]
+fn membership_form(word: &[u8]) -> Option<Option<u64>>
+    ensures { result ≡ membership_form word.now }
 {
     if word == b"-".as_slice() {
         return Some(None);
@@ -56,7 +36,7 @@ fn player_form(line: &[u8]) -> Option<(u64, Option<u64>, &[u8])>
         return None;
     }
     let rating = decimals::read(rating)?;
-    let team = team_form(team)?;
+    let team = membership_form(team)?;
     if is_name(name) {
         Some((rating, team, name))
     } else {
@@ -64,76 +44,89 @@ fn player_form(line: &[u8]) -> Option<(u64, Option<u64>, &[u8])>
     }
 }
 
-/// The rating and the name of a player without a team.
-#[tactic(auto, unfolding(crate::specs::Forms::player_in))]
-fn player(line: &[u8]) -> Result<(u32, &[u8]), JournalCause>
-    ensures { Shows (λ p. record { name = p.1.now; rating = p.0; team = None }) result (player_in (words_of line.now)) }
+/// The team of a player, where it is none or one of so many.
+fn membership(team: Option<u64>, teams: u32) -> Option<Option<u32>>
+    ensures { result ≡ (if membership_fits teams team then Some team else None) }
 {
-    let (rating, team, name) = player_form(line).ok_or(JournalCause::Form)?;
-    if 400 <= rating && rating <= 4000 && team.is_none() {
-        Ok((rating as u32, name))
-    } else {
-        Err(JournalCause::Form)
+    match team {
+        None => Some(None),
+        Some(team) => {
+            if team < u64::from(teams) {
+                Some(Some(team as u32))
+            } else {
+                None
+            }
+        }
     }
 }
 
-/// Whether one of the players has this name.
-fn is_taken(players: &[Player], name: &[u8]) -> bool
-    ensures { result ≡ is_taken players.now name.now }
+/// Whether some player has this name.
+fn is_player(players: &[Player], name: &[u8]) -> bool
+    ensures { result ≡ list_any (λ (p : Player). bytes_eq p.name name.now) players.now }
 {
     players.iter().any(|p| p.name.bytes() == name)
 }
 
-/// Refuses a player after the first 1,000, and a name that another player has.
-fn joins(players: &[Player], name: &[u8]) -> Result<(), JournalCause>
-    ensures { result ≡ joins players.now name.now }
+/// Whether one of the players' names is this one.
+fn is_taken(players: &[Player], name: &[u8]) -> bool
+    ensures { result ≡ is_taken (names_of players.now) name.now }
 {
-    if players.len() < 1000 {
-        if is_taken(players, name) {
-            Err(JournalCause::Form)
-        } else {
-            Ok(())
-        }
+    is_player(players, name)
+}
+
+/// The rating, the team and the name of the player of this line, of so many teams and behind these players.
+#[tactic(auto, unfolding(crate::specs::Forms::player_in))]
+fn player<'a>(
+    teams: u32,
+    players: &[Player],
+    line: &'a [u8],
+) -> Result<(u32, Option<u32>, &'a [u8]), JournalCause>
+    ensures is { Shows (λ p. record { name = p.2.now; rating = p.0; team = p.1 }) result
+        (player_in teams (names_of players.now) (words_of line.now)) }
+    ensures room { IfOk result (λ _. length players.now < 1000) }
+{
+    let (rating, team, name) = player_form(line).ok_or(JournalCause::Form)?;
+    if rating < 400 || 4000 < rating {
+        return Err(JournalCause::Range);
+    }
+    let team = membership(team, teams).ok_or(JournalCause::Range)?;
+    if players.len() >= 1000 {
+        Err(JournalCause::Range)
+    } else if is_taken(players, name) {
+        Err(JournalCause::Repeat)
     } else {
-        Err(JournalCause::Form)
+        Ok((rating as u32, team, name))
     }
 }
 
-/// Refuses `begin` before the first player.
-fn begun(players: &[Player]) -> Result<(), JournalCause>
-    ensures { result ≡ begun players.now }
-{
-    if players.is_empty() {
-        Err(JournalCause::Form)
-    } else {
-        Ok(())
-    }
-}
-
-/// The players up to `begin`, and the text behind it.
+/// The players, of so many teams, up to `begin`, and the text behind it.
 #[tactic(auto, using(crate::proofs::Steps::players_step))]
 pub(crate) fn players_of(
     alloc: Global,
+    teams: u32,
     text: &[u8],
 ) -> Result<(Vec<Player>, &[u8]), ReadJournalFault>
-    ensures read { Gives (λ read. (read.0.items, lines_of read.1.now)) result (players_in [] (lines_of text.now)) }
+    requires { teams ≤ 100 }
+    ensures read { Gives (λ read. (read.0.items, lines_of read.1.now)) result (players_in teams [] (lines_of text.now)) }
     ensures most { IfOk result (λ read. vec_len read.0 ≤ 1000) }
 {
     let mut players = Vec::new(alloc);
     let mut rest = text;
     'lines: loop {
-        let (line, after) = next_line(rest)?;
+        let number = 6 + u64::from(teams) + players.len() as u64;
+        let (line, after) = next_line(rest, number)?;
         rest = after;
         if line == b"begin".as_slice() {
-            begun(&players).map_err(fault_of)?;
+            if players.is_empty() {
+                return Err(fault_at(number, JournalCause::Form).into());
+            }
             return Ok((players, rest));
         }
-        let (rating, name) = player(line).map_err(fault_of)?;
-        joins(&players, name).map_err(fault_of)?;
+        let (rating, team, name) = at_line(number, player(teams, &players, line))?;
         players.push(Player {
             name: Text::of(Vec::from_slice(alloc, name)?),
             rating,
-            team: None,
+            team,
         })?;
     }
 }

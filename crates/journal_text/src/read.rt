@@ -1,58 +1,62 @@
-ghost use Rattle.std.specs.Prelude.{◌≡◌, ℕ, List, IfOk, IfErr, OnOk, MatchResult, false};
+ghost use Rattle.std.specs.Prelude.{◌≡◌, ◌-◌, ℕ, List, IfOk, IfErr, OnOk, MatchResult, MatchOption, Some, None, slice_get};
+ghost use Rattle.entries.specs.Ranges.{IsWritable};
+ghost use Rattle.entries.specs.declared.journal.Entry.{Entry};
 ghost use Rattle.entries.specs.declared.journal.Journal.{Journal};
-ghost use Rattle.journal_text.specs.Lines.{lines_of, is_end};
-ghost use Rattle.journal_text.specs.Text.{Spells, HasNoTeams};
-ghost use Rattle.journal_text.specs.Refusals.{IsFault, cause_of, has_unbuilt};
+ghost use Rattle.journal_text.specs.declared.fault.JournalFault.{JournalFault};
+ghost use Rattle.journal_text.specs.Lines.{spaced, lines_of, is_end};
+ghost use Rattle.journal_text.specs.Text.{Spells, text_of, entry_words, line_of_entry};
+ghost use Rattle.journal_text.specs.Beginnings.{IsFirst};
+ghost use Rattle.journal_text.specs.Faults.{fault_of, IsFault};
 ghost use Rattle.journal_text.specs.Reading.{Gives, journal_in};
 
 use crate::entry_lines::entries_of;
-use crate::fault::{JournalCause, ReadJournalFault, fault_of};
+use crate::fault::{JournalCause, ReadJournalFault, fault_at};
 use crate::head::head_of;
 use crate::players::players_of;
-use crate::unbuilt::has_unbuilt;
+use crate::teams::teams_of;
 use conn::List;
 use entries::{Journal, Setup};
 use std::alloc::Global;
 
-/// The journal whose text the bytes are: a good setup without teams, and entries in range of players who enter and
-/// leave. `Bad` comes exactly where they are the text of no such journal, unless memory runs out first. It names
-/// `NotBuilt` exactly where some line of the text, an unfinished last one too, begins as one of a kind that is not built
-/// yet: `team `, or two canonical decimals and `pause`, `act`, `tick` or `wave`. Takes memory for the journal alone.
+/// The journal whose text the bytes are: a good setup, and entries in range of the kinds that are built. `Bad` comes
+/// exactly where they are the text of no journal, unless memory runs out first, and names the first line that cannot
+/// stand and the first cause that holds of it.
 pub fn read_journal(alloc: Global, bytes: &[u8]) -> Result<Journal, ReadJournalFault>
     // What is read has this text, byte for byte.
-    ensures read { IfOk result (λ j. Spells bytes.now j × HasNoTeams j) }
+    ensures read { IfOk result (Spells bytes.now) }
 
     // What has this text is read, unless memory runs out.
-    ensures only { (j : Journal) → Spells bytes.now j → HasNoTeams j
+    ensures only { (j : Journal) → Spells bytes.now j
         → MatchResult result (λ read. read ≡ j) (λ fault. fault ≡ ReadJournalFault.OutOfMemory) }
 
-    // What is refused is the text of no journal without teams, and its cause says whether a line is of a kind that is
-    // not built. A text with such a line is never read.
+    // What is refused has just this first fault. What is read has none.
     ensures refused { IfErr result (IsFault bytes.now) }
-    ensures built { OnOk result (has_unbuilt bytes.now ≡ false) }
+    ensures sound { OnOk result (fault_of bytes.now ≡ None) }
 {
-    match journal_of(alloc, bytes) {
-        Ok(journal) => Ok(journal),
-        Err(ReadJournalFault::Bad(_)) => Err(ReadJournalFault::Bad(fault_of(cause_of(bytes)))),
-        Err(ReadJournalFault::OutOfMemory) => Err(ReadJournalFault::OutOfMemory),
-    }
+    journal_of(alloc, bytes)
 }
 
-/// Two journals without teams that have one text are one journal.
+/// Two journals that have one text are one journal.
 pub fn one_journal()
-    ensures { (text : List ℕ) (a b : Journal) → Spells text a → Spells text b → HasNoTeams a → HasNoTeams b → a ≡ b }
+    ensures { (text : List ℕ) (a b : Journal) → Spells text a → Spells text b → a ≡ b }
 {}
 
-/// What is wrong with a text that is refused.
-fn cause_of(text: &[u8]) -> JournalCause
-    ensures { result ≡ cause_of text.now }
-{
-    if has_unbuilt(text) {
-        JournalCause::NotBuilt
-    } else {
-        JournalCause::Form
-    }
-}
+/// Each text that has no fault is a journal's, and no text that has a fault is.
+pub fn journal_or_fault()
+    ensures { (text : List ℕ) → MatchOption (fault_of text) ((j : Journal) × Spells text j) (λ _. (j : Journal) → ¬ Spells text j) }
+{}
+
+/// The first fault of a text is of its first line that cannot stand: some journal's text begins with the lines before it,
+/// and where it is a whole line none begins with it too.
+pub fn first_that_cannot_stand()
+    ensures { (text : List ℕ) (fault : JournalFault) → fault_of text ≡ Some fault → IsFirst text fault }
+{}
+
+/// The line of an entry stands in a journal's text where `line_of_entry` says, lines counting from 1.
+pub fn place_of_entry()
+    ensures { (j : Journal) (place : ℕ) (e : Entry) → IsWritable j → slice_get j.entries place ≡ Some e
+        → slice_get (lines_of (text_of j)) (line_of_entry j.setup place - 1) ≡ Some (spaced (entry_words e)) }
+{}
 
 /// Whether nothing stands behind the last line.
 fn is_end(text: &[u8]) -> bool
@@ -67,10 +71,13 @@ fn journal_of(alloc: Global, text: &[u8]) -> Result<Journal, ReadJournalFault>
     ensures { Gives (λ journal. journal) result (journal_in text.now) }
 {
     let (head, rest) = head_of(text)?;
-    let (players, rest) = players_of(alloc, rest)?;
-    let (entries, rest) = entries_of(alloc, players.len() as u32, rest)?;
+    let (teams, rest) = teams_of(alloc, rest)?;
+    let few = teams.len() as u32;
+    let (players, rest) = players_of(alloc, few, rest)?;
+    let (entries, rest) = entries_of(alloc, few, players.len() as u32, rest)?;
     if !is_end(rest) {
-        return Err(ReadJournalFault::Bad(fault_of(JournalCause::Form)));
+        let line = 8 + u64::from(few) + players.len() as u64 + entries.len() as u64;
+        return Err(fault_at(line, JournalCause::After).into());
     }
     Ok(Journal {
         setup: Setup {
@@ -79,7 +86,7 @@ fn journal_of(alloc: Global, text: &[u8]) -> Result<Journal, ReadJournalFault>
             ends: head.ends,
             wave_ms: head.wave_ms,
             leaders: head.leaders,
-            teams: List::of(Vec::new(alloc)),
+            teams: List::of(teams),
             players: List::of(players),
         },
         entries: List::of(entries),

@@ -5,7 +5,7 @@ use Rattle.journal_text.proofs.players.players_of.Given as goal
 
 abbrev pub invariant-lines : goal.invariant-lines
 invariant-lines l = record {
-  goes_on : players_in l.players.items (lines_of l.rest) ≡ players_in [] (lines_of l.text);
+  goes_on : players_in l.teams l.players.items (lines_of l.rest) ≡ players_in l.teams [] (lines_of l.text);
   most : vec_len l.players ≤ 1000;
 }
 

@@ -5,8 +5,14 @@ use Rattle.history.proofs.Histories.{entries-history}
 use Rattle.arena_core.specs.Held.{Held, past}
 use Rattle.arena_core.proofs.arena.Arena.stamp.Goals as goal
 
-pub returns : goal.returns
-returns c =
+pub returns-clause-stamp : goal.returns-clause-stamp
+returns-clause-stamp c =
     let a = c.self.inside in
     let last : c.last_stamp.result ≡ last_stamp (history a.setup a.entries.items).entries = c.last_stamp.ensures ∙ ap last_stamp (c.as_slice.ensures.value ∙ sym (entries-history a.setup a.entries.items)) in
     subst (λ (h : Held). c.min.result ≡ stamp_of (past h) c.args.now) c.self.view_is (omega (arith, last))
+
+pub returns-clause-stays : goal.returns-clause-stays
+returns-clause-stays c =
+    let a = c.self.inside in
+    let last : c.last_stamp.result ≡ last_stamp (history a.setup a.entries.items).entries = c.last_stamp.ensures ∙ ap last_stamp (c.as_slice.ensures.value ∙ sym (entries-history a.setup a.entries.items)) in
+    subst (λ (h : Held). stamp_of (past h) c.min.result ≡ c.min.result) c.self.view_is (omega (arith, last))

@@ -1,0 +1,20 @@
+use board::Move;
+
+/// What a player may do in a game of his.
+#[derive(Debug, Clone, Copy, PartialEq, Eq)]
+pub enum Action {
+    /// He makes a move.
+    Move(Move),
+    /// He gives the game up.
+    Resign,
+    /// He offers a draw.
+    Offer,
+    /// He accepts the draw that the other player offers.
+    Accept,
+    /// He declines the draw that the other player offers.
+    Decline,
+    /// He claims a draw, by threefold repetition or by the fifty-move rule.
+    Claim,
+    /// He gives half of his time away for a further point if he wins.
+    Berserk,
+}

@@ -1,0 +1,5 @@
+/// The greatest stamp of an entry, in milliseconds.
+pub const MAX_STAMP: u64 = 1_000_000_000;
+
+/// How many entries a journal has at most.
+pub const MAX_ENTRIES: u64 = 8_000_000;

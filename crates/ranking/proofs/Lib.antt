@@ -1,0 +1,11 @@
+pub mod Before
+pub mod Counted
+pub mod Lists
+pub mod Moving
+pub mod Numbers
+pub mod Orders
+pub mod Places
+pub mod Players
+pub mod Ranks
+pub mod Sorts
+pub mod Tables

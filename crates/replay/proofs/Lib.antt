@@ -1,0 +1,5 @@
+mod Causes
+mod Ends
+mod Lines
+mod OneFate
+mod TeamLines

@@ -1,0 +1,4 @@
+pub mod Fates
+pub mod Replayed
+pub mod Replays
+pub mod Table

@@ -1,0 +1,2 @@
+pub mod LaterMoves
+pub mod MoreEvents

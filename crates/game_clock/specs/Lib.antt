@@ -1,0 +1,3 @@
+pub mod ClockEvents
+pub mod Banks
+pub mod Clocks

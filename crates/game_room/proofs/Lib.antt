@@ -1,0 +1,14 @@
+pub mod RoomLeft
+pub mod Accepted
+pub mod Steps
+pub mod Followed
+pub mod Stands
+pub mod Splits
+pub mod Cases
+pub mod Stays
+pub mod Counted
+pub mod EndLaws
+pub mod Found
+pub mod BerserkLaws
+pub mod OfferLaws
+pub mod StandingOffers

@@ -14,7 +14,7 @@ use Rattle.history.specs.History.{History}
 use Rattle.history.specs.Table.{lines, team_standings}
 use Rattle.history.specs.Views.{arena_view, me_view}
 
--- the reply to a command at a stamp, at the history that ends with the command's entry: the player who asked
+-- the reply to a command at a stamp, once its entry is the last of the history: the player who asked
 abbrev pub reply_to : Setup → History → ℕ → Command → Reply
 reply_to s h t (command.Enter p) = reply.Me (me_view s h p)
 reply_to s h t (command.Pause p) = reply.Me (me_view s h p)

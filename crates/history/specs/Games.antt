@@ -24,7 +24,7 @@ abbrev pub games_from : ℕ → List Start → List Game
 games_from number [] = []
 games_from number (start ∷ rest) = game_of number start ∷ games_from (suc number) rest
 
--- the games that were begun: they are numbered from 0 in the order of their starts
+-- the games that were begun: a game's number is how many were begun before it
 unfoldable pub begun : History → List Game
 begun h = games_from 0 h.starts
 

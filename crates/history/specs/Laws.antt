@@ -116,7 +116,7 @@ EnteredHaveAsked = (s : Setup) (es : List Entry) (p : ℕ)
     → IsLegal s es
     → IsTrue (has_entered (history s es) p) ↔ (wish s (history s es) p ≢ wishes.Absent)
 
--- the number since when of an idle player is the least from which on he was idle after each number of entries
+-- an idle player's number since when is a number of entries from which on he was idle after each, and no smaller one is
 abbrev pub SinceIsLeast : Type 0
 SinceIsLeast = (s : Setup) (es : List Entry) (p : ℕ)
     → idle s (history s es) p ≡ true

@@ -33,6 +33,6 @@ place s h p = record { wish = wish s h p; game = playing s h p; since = since s 
 unfoldable pub places : Setup → History → List Place
 places s h = map (place s h) (range_with_len 0 (length s.players))
 
--- p was idle after the first k entries for every k from n on
+-- whatever number of first entries is looked at, from n on, p was idle after them
 abbrev pub WasIdleFrom : Setup → History → ℕ → ℕ → Type 0
 WasIdleFrom s h p n = (k : ℕ) → n ≤ k → idle s (first k h) p ≡ true

@@ -1,4 +1,4 @@
--- The pairs of a list place by place, and of a plan group by group.
+-- The pairs of a list place by place, and those of a plan by its groups.
 use Rattle.std.specs.Prelude.{Option, Some, None}
 use Rattle.std.specs.List.{range_with_len, filter_map, flat_map}
 use Rattle.std.proofs.Common.{◌≡◌, ℕ, zero, suc, ◌+◌, ◌<◌, ◌≤◌, ◌⊎◌, ⊎_elim, Bool, true, false, cond, nat_lt, List, [], ◌∷◌, ◌++◌, length, slice_get, slice_index, refl, sym, ◌∙◌, ap, ap₂, subst, arith, lt-ltb, le-ltb, append-nil, add-one, zero-add}

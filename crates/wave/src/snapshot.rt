@@ -21,6 +21,6 @@ pub struct Snapshot {
 pub struct Plan {
     /// How many entries its snapshot is of.
     pub n: u64,
-    /// The pairs, group by group, and within a group by the better ranked player.
+    /// The pairs of one group after another, and those of a group by their better ranked players.
     pub pairs: List<Pair>,
 }

@@ -1,13 +1,12 @@
 -- Pages of a list, and of a table, cut at the end.
-use Rattle.std.proofs.Common.{◌≡◌, ℕ, ◌-◌, ◌<◌, ◌≤◌, ⊎_elim, List, take, drop, length, min, sym, ap, ◌∙◌, arith}
+use Rattle.std.proofs.Common.{◌≡◌, ℕ, ◌-◌, ◌<◌, ◌≤◌, ⊎_elim, List, take, drop, length, map, min, sym, ap, ◌∙◌, arith}
 use Rattle.std.proofs.lemmas.Bool.{cases_lt}
-use Rattle.std.proofs.lemmas.List.{take_all, drop_all, length-drop}
+use Rattle.std.proofs.lemmas.List.{take_all, drop_all, length-drop, length-map}
 use Rattle.std.proofs.lemmas.List.Sorted.{length_permutation}
+use Rattle.ranking.specs.declared.row.Row.{Row}
 use Rattle.ranking.specs.declared.line.Line.{Line}
-use Rattle.ranking.specs.Order.{ranked}
 use Rattle.ranking.specs.Rows.{rows, page}
-use Rattle.ranking.proofs.Ranks.{length-rows_from}
-use Rattle.history.proofs.TableLaws.{ranked-permutation}
+use Rattle.ranking.specs.Laws.{RowsHaveThePlayers}
 
 -- the first n of a list, cut at its end
 take_min : {X : Type 0} (n m : ℕ) (xs : List X) → m ≡ min (length xs) n → take m xs ≡ take n xs
@@ -34,14 +33,10 @@ page_cut xs from n start most is cut =
     take_all (length xs - start) (drop start xs) (omega (arith, length-drop start xs)) ∙ drop_min from start xs is in
     take_min n most (take (length xs - start) (drop start xs)) cut ∙ ap (take n) rest
 
-pub length-rows : (ls : List Line) → length (rows ls) ≡ length ls
-unfolding rows
-length-rows ls = length-rows_from 0 (ranked ls) ∙ length_permutation ls (ranked ls) (ranked-permutation ls)
-
--- all rows are one page
-pub page_all : (ls : List Line) (n : ℕ) → n ≡ length ls → page 0 n ls ≡ rows ls
-page_all ls n is = take_all n (rows ls) (omega (arith, is, length-rows ls))
+-- there is a row for each line
+length-rows : RowsHaveThePlayers → (ls : List Line) → length (rows ls) ≡ length ls
+length-rows law ls = sym (length-map (rows ls) (λ (r : Row). r.player)) ∙ (length_permutation (map (λ (l : Line). l.player) ls) (map (λ (r : Row). r.player) (rows ls)) (law ls) ∙ length-map ls (λ (l : Line). l.player))
 
 -- a page from a rank that is cut at the table's end
-pub page_from_cut : (ls : List Line) (from start n : ℕ) → start ≡ min (length ls) from → page start n ls ≡ page from n ls
-page_from_cut ls from start n is = ap (take n) (drop_min from start (rows ls) (is ∙ ap (λ k. min k from) (sym (length-rows ls))))
+pub page_from_cut : RowsHaveThePlayers → (ls : List Line) (from start n : ℕ) → start ≡ min (length ls) from → page start n ls ≡ page from n ls
+page_from_cut law ls from start n is = ap (take n) (drop_min from start (rows ls) (is ∙ ap (λ k. min k from) (sym (length-rows law ls))))

@@ -1,4 +1,9 @@
 pub mod Answers
+pub mod Below
+pub mod Courses
 pub mod Held
 pub mod Kept
+pub mod People
+pub mod Starting
 pub mod Views
+pub mod Written

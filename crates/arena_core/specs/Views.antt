@@ -4,7 +4,7 @@ use Rattle.ranking.specs.declared.row.Row.{Row}
 use Rattle.ranking.specs.declared.line.Line.{Line}
 use Rattle.ranking.specs.Rows.{rows, rank_of}
 use Rattle.seats.specs.declared.wish.PlayerSeat.{PlayerSeat}
-use Rattle.history.specs.declared.view.MeView.{MeView}
+use Rattle.arena_rules.specs.declared.view.MeView.{MeView}
 
 -- a player with a seat and a row, if he has one
 abbrev pub me_by : ℕ → PlayerSeat → Option Row → MeView

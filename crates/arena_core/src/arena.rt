@@ -1,51 +1,88 @@
-ghost use Rattle.std.specs.Prelude.{ℕ, ◌≡◌, ◌≢◌, ◌+◌, ◌<◌, ◌≤◌, ◌∷◌, ◌++◌, [], length, slice_get, IfOk, IsOk, OnOk, OnErr, Err, None};
+ghost use Rattle.std.specs.Prelude.{ℕ, ◌≡◌, ◌≢◌, ◌+◌, ◌<◌, ◌≤◌, List, [], ◌∷◌, ◌++◌, length, slice_get, IfOk, IfErr, IsOk, OnOk, OnErr, Err, None, Some};
+ghost use Rattle.std.specs.Option.{option_map};
+ghost use Rattle.entries.specs.Limits.{max_stamp};
 ghost use Rattle.entries.specs.Ranges.{IsGood};
-ghost use Rattle.history.specs.Answers.{reply_to, answer};
-ghost use Rattle.history.specs.Commands.{IsCommandOf, entry_of};
-ghost use Rattle.history.specs.Legal.{IsLegal, stamp_of, verdict, own_refusal, last_stamp};
-ghost use Rattle.history.specs.Stands.{seat};
-ghost use Rattle.history.specs.Table.{standings, team_standings};
-ghost use Rattle.history.specs.Views.{arena_view, me_view};
-ghost use Rattle.history.specs.Wishes.{wish};
-ghost use Rattle.arena_core.specs.Answers.{Answers, IsQueryOf, IsSmall};
+ghost use Rattle.entries.specs.declared.journal.Entry.{Entry as JournalEntry};
+ghost use Rattle.arena_history.specs.Endings.{EndedGame, ended_by, finished};
+ghost use Rattle.arena_history.specs.Games.{begun};
+ghost use Rattle.arena_history.specs.Snapshots.{snapshot};
+ghost use Rattle.arena_history.specs.Stamps.{last_stamp, stamp_of};
+ghost use Rattle.arena_history.specs.Table.{standings, team_standings};
+ghost use Rattle.arena_history.specs.Waves.{history, started};
+ghost use Rattle.arena_rules.specs.Answers.{answer_to, reply_to, shown_at};
+ghost use Rattle.arena_rules.specs.Commands.{CanBeNamed, IsCommandOf, entry_of};
+ghost use Rattle.arena_rules.specs.Commits.{Commits, IsPlanOf, commit_refusal, wave_entry};
+ghost use Rattle.arena_rules.specs.FairLaws.{IsFair};
+ghost use Rattle.arena_rules.specs.Legal.{AllowsWave, IsLegal};
+ghost use Rattle.arena_rules.specs.Queries.{IsQueryOf};
+ghost use Rattle.arena_rules.specs.StartLaws.{journal_of};
+ghost use Rattle.arena_rules.specs.Verdicts.{verdict};
+ghost use Rattle.arena_rules.specs.Views.{arena_view, me_view};
+ghost use Rattle.arena_core.specs.Answers.{Answers, Tells, IsSmall};
 ghost use Rattle.arena_core.specs.Held.{past};
-ghost use Rattle.arena_core.specs.Views.{row_of};
 
-use crate::fault::{ApplyFault, QueryFault};
-use crate::keeping;
-use crate::pages::{all_rows, entries_from, rows_from};
-use crate::refusals::{enter_refusal, leave_refusal, or_full, pause_refusal};
+use crate::asking::verdict;
+use crate::book::Book;
+use crate::fault::{ApplyFault, QueryFault, told};
+use crate::laws::laws_of_histories;
+use crate::obeying::{obey, shows_named};
+use crate::pages::{entries_from, rows_from};
+use crate::people::People;
+use crate::starting::{begin_wave, prepare_wave, wave_refusal};
 use crate::views::{me_by, phase};
+use crate::waiting::count_waiting;
+use arena_games::Games;
+use arena_history::table_is_in_order;
+use arena_rules::{
+    Answer, ArenaView, Command, CommitFault, MeView, Query, Refusal, Reply, games_of_legal_lists,
+    legal_lists, legal_lists_are_fair, legal_lists_in_range, plans_of_entries,
+    tables_of_legal_lists, what_is_allowed,
+};
 use conn::List;
-use entries::{Entry, MAX_STAMP, Setup, What};
-use history::{Answer, ArenaView, Command, MeView, Query, Refusal, Reply, Wish};
-use ranking::{Row, Table};
-use seats::Seats;
+use entries::{Entry, Journal, Setup, Start};
+use game_room::GameView;
+use ranking::Row;
 use std::alloc::{AllocError, Global};
 use std::marker::Model;
 use team_battle::{TeamRow, team_table};
+use turnstile::Historied;
+use wave::{Plan, Snapshot, each_player_once};
 
 /// One arena. Contracts see its setup, its journal and how many entries more the journal has room for. Every arena has a
 /// good setup and a legal journal.
 #[derive(Drop)]
 pub struct Arena {
-    setup: Setup,
-    entries: Vec<Entry>,
-    table: Table,
-    seats: Seats,
+    book: Book,
+    games: Games,
+    people: People,
 }
 
 impl Model for Arena {
-    ghost use Rattle.arena_core.specs.Held.{Held, held};
+    ghost use Rattle.arena_core.specs.Held.{Held};
 
     ghost Value = { Held };
 
-    ghost use Rattle.std.specs.Prelude.{◌-◌, vec_len, vec_capacity};
-    ghost use Rattle.arena_core.specs.Kept.{IsKept};
+    ghost use Rattle.arena_core.specs.Kept.{AreKept};
 
-    ghost view = { λ a. held a.setup a.entries.items (vec_capacity a.entries - vec_len a.entries) };
+    ghost view = { λ a. record { setup = a.book.setup; entries = a.book.entries; spare = a.book.spare } };
 
-    ghost invariant = { λ a. IsKept a.setup a.entries.items a.table a.seats };
+    ghost invariant = { λ a. AreKept a.book.setup a.book.entries a.games a.people };
+}
+
+impl Historied for Arena {
+    type Entry = Entry;
+
+    type Fixed = Setup;
+
+    ghost entries = { λ a. a.entries };
+
+    ghost by = { λ e. e.pass };
+
+    ghost fixed = { λ a. a.setup };
+
+    fn len(&self) -> u64 {
+        self.book.len()
+    }
 }
 
 impl Arena {
@@ -56,14 +93,13 @@ impl Arena {
         ensures setup { IfOk result (λ arena. arena.setup ≡ setup) }
         ensures empty { IfOk result (λ arena. arena.entries ≡ []) }
     {
-        let players = setup.players.items().len() as u32;
-        let table = Table::new(alloc, players)?;
-        let seats = Seats::new(alloc, players)?;
+        legal_lists();
+        laws_of_histories();
+        let people = People::new(alloc, &setup)?;
         Ok(Arena {
-            setup,
-            entries: Vec::new(alloc),
-            table,
-            seats,
+            book: Book::new(alloc, setup),
+            games: Games::new(alloc),
+            people,
         })
     }
 
@@ -77,50 +113,102 @@ impl Arena {
         ensures unchanged { OnErr result (self.new ≡ self.old) }
         ensures memory { k ≤ self.old.spare → IsOk result }
     {
-        self.entries.reserve(k as usize)
+        self.book.reserve(k)
     }
 
     /// Adds the one entry of a command that pass `pass` makes at `now`, a moment of the clock in milliseconds; both may be any
-    /// number. The entry's stamp is `now`, raised to the last stamp and cut to 1,000,000,000. The reply shows the player who
-    /// asked, with that entry behind him.
+    /// number. The entry's stamp is `now`, raised to the last stamp and cut to 1,000,000,000. The reply is read behind that
+    /// entry: the player who entered, paused or left, the game in which a player acted, or how many games a look ended.
     ///
-    /// `Refused` has the command's first refusal at that stamp: that the arena is closed, then what the player's wish refuses,
-    /// then that the journal is full. `OutOfMemory` comes where the command is not refused and there is no memory for its
-    /// entry, never where the journal has room for one. Both leave all as it was.
+    /// `Refused` has the command's first refusal at that stamp: that the arena is closed, then what the player's wish or the
+    /// game refuses, or that nothing is due, then that the journal is full. `OutOfMemory` comes where the command is not
+    /// refused and there is no memory for its entry, never where the journal has room for one. Both leave all as it was.
+    ///
+    /// An act finds its game at once, a look goes once over the running games, and each game that one of them ends moves the
+    /// rows between its two players' old and new places.
     pub fn apply(&mut self, pass: u32, now: u64, c: Command) -> Result<Reply, ApplyFault>
         requires { IsCommandOf (length self.old.setup.players) c }
         ensures setup { self.new.setup ≡ self.old.setup }
         ensures answer { Answers self.old.setup self.old.entries pass now c self.new.entries result }
         ensures unchanged { OnErr result (self.new ≡ self.old) }
 
+        // Nobody plays two games at once, each running game is between two different players who sit in it, and each game
+        // that ended before the arena's end counts once.
+        ensures fair { IsFair self.new.setup self.new.entries }
+
         // It takes no memory where the journal has room for an entry, and an entry takes the room of one at most.
         ensures memory { 1 ≤ self.old.spare → result ≢ Err ApplyFault.OutOfMemory }
         ensures spare { self.old.spare ≤ self.new.spare + 1 }
     {
-        let stamp = self.stamp(now);
-        if let Some(refusal) = self.verdict(stamp, c) {
-            return Err(ApplyFault::Refused(refusal));
-        }
-        if self.reserve(1).is_err() {
-            return Err(ApplyFault::OutOfMemory);
-        }
-        self.obey(stamp, pass, c);
-        Ok(self.reply(c))
+        let answer = self.answer(pass, now, c);
+        self.shows_legal();
+        answer
+    }
+
+    /// What a wave is planned from at `now`, which is raised and cut as a command's: the idle players in the order of the
+    /// table. It goes once over the table, and fails only for want of memory.
+    pub fn snapshot(&self, alloc: Global, now: u64) -> Result<Snapshot, AllocError>
+        ensures { IfOk result (λ made. made ≡ snapshot self.now.setup (past self.now) (stamp_of self.now.entries now)) }
+    {
+        laws_of_histories();
+        let rows = self.people.candidates(alloc, self.book.setup())?;
+        Ok(Snapshot {
+            n: self.book.len(),
+            stamp: self.stamp(now),
+            last_wave: self.book.last_wave(),
+            running: self.games.running(),
+            rule: self.book.setup().rule,
+            rows: List::of(rows),
+        })
+    }
+
+    /// Starts those pairs of a plan whose players are both still idle since its snapshot, and answers how many: where there is
+    /// one, it adds a wave entry of pass `pass`, with the stamp of `now` as a command's. The plan is that of a snapshot of the
+    /// journal's first `plan.n` entries. Without a pair nothing changes.
+    ///
+    /// `Early` comes below the first moment for games, `Closed` from the arena's end on, `Full` where there is a pair to
+    /// start and there are 8,000,000 entries or there would be more than 200,000 games, `OutOfMemory` where nothing of this
+    /// holds, there is a pair to start and no memory for its game or for the entry. Each leaves all as it was.
+    ///
+    /// It compares two numbers for each pair, and takes all memory that the games that it starts need until they have ended.
+    pub fn commit(
+        &mut self,
+        alloc: Global,
+        pass: u32,
+        now: u64,
+        plan: &Plan,
+    ) -> Result<u32, CommitFault>
+        requires { IsPlanOf self.old.setup self.old.entries plan.now }
+        ensures setup { self.new.setup ≡ self.old.setup }
+        ensures answer { Commits self.old.setup self.old.entries pass now plan.now.n self.new.entries result }
+        ensures unchanged { OnErr result (self.new ≡ self.old) }
+        ensures fair { IsFair self.new.setup self.new.entries }
+        ensures spare { self.old.spare ≤ self.new.spare + 1 }
+    {
+        let answer = self.commit_plan(alloc, pass, now, plan);
+        self.shows_legal();
+        answer
     }
 
     /// Answers a question at `now`, a moment of the clock in milliseconds, which is raised and cut as a command's. It adds no
-    /// entry. It fails only for want of memory, which a question about the arena or a player never takes.
+    /// entry. `NoGame` comes exactly where a game is asked for that was not begun. `OutOfMemory` comes where there is an answer
+    /// and no memory for it, never for a question about the arena, a player or a game, whose answer is found at once.
     pub fn query(&self, alloc: Global, now: u64, q: Query) -> Result<Answer, QueryFault>
         requires { IsQueryOf (length self.now.setup.players) q }
-        ensures answer { IfOk result (λ given. given ≡ answer self.now.setup (past self.now) (stamp_of (past self.now) now) q) }
-        ensures memory { IsSmall q → IsOk result }
+        ensures answer { Tells self.now.setup self.now.entries now q result }
+        ensures memory { IsSmall q → result ≢ Err QueryFault.OutOfMemory }
     {
+        let t = self.stamp(now);
         match q {
-            Query::Arena => Ok(Answer::Arena(self.view(self.stamp(now)))),
-            Query::Standing(k) => Ok(self.standing(alloc, k)?),
-            Query::Teams => Ok(Answer::Teams(List::of(self.teams(alloc)?))),
+            Query::Arena => Ok(Answer::Arena(self.view(t))),
+            Query::Standing(k) => told(self.standing(alloc, k)),
+            Query::Teams => told(self.team_table(alloc)),
             Query::Me(p) => Ok(Answer::Me(self.me(p))),
-            Query::Journal(k) => Ok(self.journal(alloc, k)?),
+            Query::Game(g) => match self.shown(t, g) {
+                Some(view) => Ok(Answer::Game(view)),
+                None => Err(QueryFault::NoGame),
+            },
+            Query::Journal(k) => told(self.journal(alloc, k)),
         }
     }
 
@@ -129,7 +217,8 @@ impl Arena {
     pub fn rows(&self, alloc: Global) -> Result<Vec<Row>, AllocError>
         ensures { IfOk result (λ rows. rows.items ≡ standings self.now.setup (past self.now)) }
     {
-        all_rows(alloc, &self.table)
+        laws_of_histories();
+        self.people.rows(alloc)
     }
 
     /// The table of the teams: a row for each team of the setup, with the points and the performance of its leaders, by points
@@ -137,104 +226,274 @@ impl Arena {
     pub fn teams(&self, alloc: Global) -> Result<Vec<TeamRow>, AllocError>
         ensures { IfOk result (λ rows. rows.items ≡ team_standings self.now.setup (past self.now)) }
     {
+        self.shows_legal();
+        tables_of_legal_lists();
         let rows = self.rows(alloc)?;
-        team_table(alloc, &self.setup, rows.as_slice())
+        team_table(alloc, self.setup(), rows.as_slice())
     }
 
     /// The number of entries.
     pub fn len(&self) -> u64
         ensures { result ≡ length self.now.entries }
     {
-        self.entries.len() as u64
+        self.book.len()
     }
 
     /// Entry number `i`, from 0, or None where there is none.
     pub fn entry(&self, i: u64) -> Option<Entry>
         ensures { result ≡ slice_get self.now.entries i }
     {
-        self.entries.get(i as usize).copied()
+        self.book.entries().get(i as usize).copied()
     }
 
     /// The setup with which the arena was made.
     pub fn setup(&self) -> &Setup
         ensures { result.now ≡ self.now.setup }
     {
-        &self.setup
+        self.book.setup()
+    }
+
+    /// How many games were begun.
+    pub fn begun(&self) -> u32
+        ensures { result ≡ length (begun self.now.setup (past self.now)) }
+    {
+        self.games.begun()
+    }
+
+    /// The number of the wave's entry that began game number `g`, and the game's players, or None where so many games were not
+    /// begun.
+    pub fn start(&self, g: u32) -> Option<Start>
+        ensures { result ≡ slice_get (past self.now).starts g }
+    {
+        self.book.starts().get(g as usize).copied()
+    }
+
+    /// How many games count: those that ended before the arena's end.
+    pub fn finished(&self) -> u32
+        ensures { result ≡ length (finished self.now.setup (past self.now)) }
+    {
+        self.book.keeps();
+        legal_lists_in_range();
+        self.people.counted().len() as u32
+    }
+
+    /// The number of the game that is number `i`, from 0, of the games that count, in the order in which they ended, or None
+    /// where there are no so many.
+    pub fn counted(&self, i: u32) -> Option<u32>
+        ensures { result ≡ option_map (λ (x : EndedGame). x.game.header.id) (slice_get (finished self.now.setup (past self.now)) i) }
+    {
+        self.people.counted().get(i as usize).copied()
+    }
+
+    /// The arena's journal, which lists the games of its waves. It takes no memory.
+    pub fn into_journal(self) -> Journal
+        ensures { result ≡ journal_of self.setup self.entries }
+    {
+        let Arena { book, .. } = self;
+        book.into_journal()
     }
 
     /// Does nothing. Its contract tells what holds of every arena.
     pub fn shows_legal(&self)
         ensures good { IsGood self.now.setup }
         ensures legal { IsLegal self.now.setup self.now.entries }
+        ensures fair { IsFair self.now.setup self.now.entries }
     {
-        let _ = &self.setup;
+        legal_lists_are_fair();
+        self.book.keeps();
     }
 }
 
-// What commands and questions are made of.
+// What commands are made of.
 impl Arena {
+    // What a command is answered, and does.
+    fn answer(&mut self, pass: u32, now: u64, c: Command) -> Result<Reply, ApplyFault>
+        requires { IsCommandOf (length self.old.setup.players) c }
+        ensures setup { self.new.setup ≡ self.old.setup }
+        ensures answer { Answers self.old.setup self.old.entries pass now c self.new.entries result }
+        ensures unchanged { OnErr result (self.new ≡ self.old) }
+        ensures memory { 1 ≤ self.old.spare → result ≢ Err ApplyFault.OutOfMemory }
+        ensures spare { self.old.spare ≤ self.new.spare + 1 }
+    {
+        shows_named(&c);
+        what_is_allowed();
+        let t = self.stamp(now);
+        if let Some(refusal) = self.verdict(t, &c) {
+            return Err(ApplyFault::Refused(refusal));
+        }
+        if self.reserve(1).is_err() {
+            return Err(ApplyFault::OutOfMemory);
+        }
+        let ended = self.obey(t, pass, &c);
+        match self.reply(t, &c, ended) {
+            Some(reply) => Ok(reply),
+            None => unreachable!(),
+        }
+    }
+
     // The stamp of what is done at this moment.
     fn stamp(&self, now: u64) -> u64
-        ensures stamp { result ≡ stamp_of (past self.now) now }
-        ensures stays { stamp_of (past self.now) result ≡ result }
+        ensures stamp { result ≡ stamp_of self.now.entries now }
+        ensures not_before { last_stamp self.now.entries ≤ result }
+        ensures most { result ≤ max_stamp }
     {
-        now.max(last_stamp(self.entries.as_slice())).min(MAX_STAMP)
+        self.book.stamp(now)
     }
 
     // None, or the first refusal of a command.
-    fn verdict(&self, stamp: u64, c: Command) -> Option<Refusal>
-        requires { IsCommandOf (length self.now.setup.players) c }
-        ensures { result ≡ verdict self.now.setup (past self.now) stamp c }
+    fn verdict(&self, t: u64, c: &Command) -> Option<Refusal>
+        requires not_before { last_stamp self.now.entries ≤ t }
+        requires player { IsCommandOf (length self.now.setup.players) c.now }
+        ensures { result ≡ verdict self.now.setup (past self.now) t c.now }
     {
-        or_full(self.entries.as_slice(), self.own_refusal(stamp, c))
+        verdict(&self.book, &self.games, &self.people, t, c)
     }
 
-    // The first of a command's own refusals.
-    fn own_refusal(&self, stamp: u64, c: Command) -> Option<Refusal>
-        requires { IsCommandOf (length self.now.setup.players) c }
-        ensures { result ≡ own_refusal self.now.setup (past self.now) stamp c }
-    {
-        if self.setup.ends <= stamp {
-            return Some(Refusal::Closed);
-        }
-        match c {
-            Command::Enter(p) => enter_refusal(self.wish(p)),
-            Command::Pause(p) => pause_refusal(self.wish(p)),
-            Command::Leave(p) => leave_refusal(self.wish(p)),
-        }
-    }
-
-    // What a player last asked for.
-    fn wish(&self, p: u32) -> Wish
-        requires { p < length self.now.setup.players }
-        ensures { result ≡ wish self.now.setup (past self.now) p }
-    {
-        self.seats.wish(p)
-    }
-
-    // Adds the entry of a command that is not refused.
-    fn obey(&mut self, stamp: u64, pass: u32, c: Command)
+    // Does what a command asks that is not refused, and adds its entry. Answers how many games it ends.
+    fn obey(&mut self, t: u64, pass: u32, c: &Command) -> u32
         requires room { 1 ≤ self.old.spare }
-        requires player { IsCommandOf (length self.old.setup.players) c }
-        requires stays { stamp_of (past self.old) stamp ≡ stamp }
-        requires granted { verdict self.old.setup (past self.old) stamp c ≡ None }
+        requires not_before { last_stamp self.old.entries ≤ t }
+        requires most { t ≤ max_stamp }
+        requires player { IsCommandOf (length self.old.setup.players) c.now }
+        requires named { CanBeNamed c.now }
+        requires granted { verdict self.old.setup (past self.old) t c.now ≡ None }
         ensures setup { self.new.setup ≡ self.old.setup }
-        ensures entries { self.new.entries ≡ self.old.entries ++ entry_of stamp pass c ∷ [] }
+        ensures entries { self.new.entries ≡ self.old.entries ++ entry_of t pass c.now ∷ [] }
         ensures spare { self.old.spare ≡ self.new.spare + 1 }
+        ensures ended { result ≡ length (ended_by self.old.setup (past self.old) (entry_of t pass c.now)) }
     {
-        let n = self.entries.len() as u64 + 1;
-        keeping::list(&mut self.table, &self.setup, c);
-        keeping::place(&mut self.seats, n, c);
-        self.entries.push_reserved(entry_of(stamp, pass, c));
+        let ended = obey(&self.book, &mut self.games, &mut self.people, t, c);
+        self.book.add(t, pass, c);
+        ended
     }
 
-    // The reply to a command whose entry is the last.
-    fn reply(&self, c: Command) -> Reply
-        requires { IsCommandOf (length self.now.setup.players) c }
-        ensures { (stamp : ℕ) → result ≡ reply_to self.now.setup (past self.now) stamp c }
+    // The reply to a command whose entry is the last, and which ended so many games.
+    fn reply(&self, t: u64, c: &Command, ended: u32) -> Option<Reply>
+        requires not_before { last_stamp self.now.entries ≤ t }
+        requires player { IsCommandOf (length self.now.setup.players) c.now }
+        ensures { (es : List JournalEntry) (pass : ℕ) → self.now.entries ≡ es ++ entry_of t pass c.now ∷ []
+            → ended ≡ length (ended_by self.now.setup (history self.now.setup es) (entry_of t pass c.now))
+            → result ≡ reply_to self.now.setup (history self.now.setup es) t pass c.now }
     {
-        match c {
-            Command::Enter(p) | Command::Pause(p) | Command::Leave(p) => Reply::Me(self.me(p)),
+        laws_of_histories();
+        match *c {
+            Command::Enter(p) => Some(Reply::Me(self.me(p))),
+            Command::Pause(p) => Some(Reply::Me(self.me(p))),
+            Command::Leave(p) => Some(Reply::Me(self.me(p))),
+            Command::Act(_, g, _) => match self.shown(t, g) {
+                Some(view) => Some(Reply::Game(view)),
+                None => None,
+            },
+            Command::Tick => Some(Reply::Ticked(ended)),
+        }
+    }
+
+    // How many pairs of a plan a wave would start, or its first refusal.
+    fn waiting(&self, t: u64, plan: &Plan) -> Result<u32, CommitFault>
+        requires { IsPlanOf self.now.setup self.now.entries plan.now }
+        ensures count { IfOk result (λ count. count ≡ length (started self.now.setup (past self.now) plan.now.n)) }
+        ensures granted { OnOk result (commit_refusal self.now.setup (past self.now) t plan.now.n ≡ None) }
+        ensures refused { IfErr result (λ fault. commit_refusal self.now.setup (past self.now) t plan.now.n ≡ Some fault) }
+    {
+        self.book.keeps();
+        laws_of_histories();
+        legal_lists();
+        legal_lists_in_range();
+        tables_of_legal_lists();
+        plans_of_entries();
+        each_player_once();
+        let count = count_waiting(&self.people, plan);
+        match wave_refusal(&self.book, t, count) {
+            Some(fault) => Err(fault),
+            None => Ok(count as u32),
+        }
+    }
+
+    // What the commit of a plan is answered, and does.
+    fn commit_plan(
+        &mut self,
+        alloc: Global,
+        pass: u32,
+        now: u64,
+        plan: &Plan,
+    ) -> Result<u32, CommitFault>
+        requires { IsPlanOf self.old.setup self.old.entries plan.now }
+        ensures setup { self.new.setup ≡ self.old.setup }
+        ensures answer { Commits self.old.setup self.old.entries pass now plan.now.n self.new.entries result }
+        ensures unchanged { OnErr result (self.new ≡ self.old) }
+        ensures spare { self.old.spare ≤ self.new.spare + 1 }
+    {
+        laws_of_histories();
+        plans_of_entries();
+        what_is_allowed();
+        let t = self.stamp(now);
+        let count = match self.waiting(t, plan) {
+            Ok(count) => count,
+            Err(fault) => return Err(fault),
+        };
+        if count == 0 {
+            return Ok(0);
+        }
+        match self.start_wave(alloc, t, pass, plan) {
+            Ok(()) => Ok(count),
+            Err(_) => Err(CommitFault::OutOfMemory),
+        }
+    }
+
+    // Begins the games of a wave, which may come, and adds its entry.
+    fn start_wave(
+        &mut self,
+        alloc: Global,
+        t: u64,
+        pass: u32,
+        plan: &Plan,
+    ) -> Result<(), AllocError>
+        requires not_before { last_stamp self.old.entries ≤ t }
+        requires most { t ≤ max_stamp }
+        requires plan { IsPlanOf self.old.setup self.old.entries plan.now }
+        requires allowed { AllowsWave self.old.setup (past self.old) t plan.now.n }
+        ensures setup { self.new.setup ≡ self.old.setup }
+        ensures entries { OnOk result (self.new.entries ≡ self.old.entries ++ wave_entry t pass plan.now.n ∷ []) }
+        ensures unchanged { OnErr result (self.new ≡ self.old) }
+        ensures spare { self.old.spare ≤ self.new.spare + 1 }
+    {
+        laws_of_histories();
+        let (headers, prepared) = prepare_wave(
+            alloc,
+            &self.book,
+            &mut self.games,
+            &mut self.people,
+            plan,
+            t,
+        )?;
+        self.book.reserve_wave(headers.len())?;
+        begin_wave(
+            &self.book,
+            &mut self.games,
+            &mut self.people,
+            plan,
+            t,
+            headers.as_slice(),
+            prepared,
+        );
+        self.book.add_wave(t, pass, plan.n, headers.as_slice());
+        Ok(())
+    }
+}
+
+// What answers are made of.
+impl Arena {
+    // The arena at a stamp.
+    fn view(&self, t: u64) -> ArenaView
+        ensures { result ≡ arena_view self.now.setup (past self.now) t }
+    {
+        laws_of_histories();
+        ArenaView {
+            stamp: t,
+            phase: phase(self.book.setup(), t),
+            entered: self.people.entered(),
+            begun: self.games.begun(),
+            running: self.games.running(),
         }
     }
 
@@ -243,64 +502,49 @@ impl Arena {
         requires { p < length self.now.setup.players }
         ensures { result ≡ me_view self.now.setup (past self.now) p }
     {
-        me_by(p, self.seats.seat(p), row_of(&self.table, p))
+        laws_of_histories();
+        table_is_in_order();
+        me_by(p, self.people.seat(p), self.people.row_of(p))
     }
 
-    // The arena at a stamp.
-    fn view(&self, stamp: u64) -> ArenaView
-        ensures { result ≡ arena_view self.now.setup (past self.now) stamp }
+    // A game at a stamp, if it was begun.
+    fn shown(&self, t: u64, g: u32) -> Option<GameView>
+        requires { last_stamp self.now.entries ≤ t }
+        ensures { result ≡ shown_at self.now.setup (past self.now) t g }
     {
-        ArenaView {
-            stamp,
-            phase: phase(&self.setup, stamp),
-            entered: self.table.len(),
-            begun: 0,
-            running: 0,
-        }
+        self.book.keeps();
+        laws_of_histories();
+        games_of_legal_lists();
+        self.games.view(g, t)
     }
 
     // The table's length, and ten rows of it.
     fn standing(&self, alloc: Global, k: u32) -> Result<Answer, AllocError>
-        ensures { IfOk result (λ given. (stamp : ℕ) → given ≡ answer self.now.setup (past self.now) stamp (Query.Standing k)) }
+        ensures { IfOk result (λ given. (t : ℕ) → answer_to self.now.setup (past self.now) t (Query.Standing k) ≡ Some given) }
     {
+        laws_of_histories();
         Ok(Answer::Standing {
-            total: self.table.len(),
-            rows: List::of(rows_from(alloc, &self.table, k)?),
+            total: self.people.entered(),
+            rows: List::of(rows_from(alloc, &self.people, k)?),
         })
+    }
+
+    // The table of the teams.
+    fn team_table(&self, alloc: Global) -> Result<Answer, AllocError>
+        ensures { IfOk result (λ given. (t : ℕ) → answer_to self.now.setup (past self.now) t Query.Teams ≡ Some given) }
+    {
+        Ok(Answer::Teams(List::of(self.teams(alloc)?)))
     }
 
     // The journal's length, and a thousand entries of it.
     fn journal(&self, alloc: Global, k: u64) -> Result<Answer, AllocError>
-        ensures { IfOk result (λ given. (stamp : ℕ) → given ≡ answer self.now.setup (past self.now) stamp (Query.Journal k)) }
+        ensures { IfOk result (λ given. (t : ℕ) → answer_to self.now.setup (past self.now) t (Query.Journal k) ≡ Some given) }
     {
-        let entries = self.entries.as_slice();
+        laws_of_histories();
+        let entries = self.book.entries();
         Ok(Answer::Journal {
             total: entries.len() as u64,
             entries: List::of(entries_from(alloc, entries, k)?),
         })
     }
-}
-
-// The row of a player, if he has one.
-fn row_of(table: &Table, p: u32) -> Option<Row>
-    ensures { result ≡ row_of table.now.lines p }
-{
-    table.row(table.rank_of(p)?)
-}
-
-fn last_stamp(entries: &[Entry]) -> u64
-    ensures { result ≡ last_stamp entries.now }
-{
-    entries.last().map_or(0, |e| e.stamp)
-}
-
-fn entry_of(stamp: u64, pass: u32, c: Command) -> Entry
-    ensures { result ≡ entry_of stamp pass c }
-{
-    let what = match c {
-        Command::Enter(p) => What::Enter(p),
-        Command::Pause(p) => What::Pause(p),
-        Command::Leave(p) => What::Leave(p),
-    };
-    Entry { stamp, pass, what }
 }

@@ -1,8 +1,9 @@
 ghost use Rattle.std.specs.Prelude.{◌≡◌, ◌*◌, take, drop, IfOk};
-ghost use Rattle.ranking.specs.Rows.{page, rows};
+ghost use Rattle.ranking.specs.Rows.{page};
 
+use crate::people::People;
 use entries::Entry;
-use ranking::{Row, Table};
+use ranking::{Row, rows_are_the_lines};
 use std::alloc::{AllocError, Global};
 
 /// How many entries an answer has at most.
@@ -20,16 +21,10 @@ pub fn entries_from(alloc: Global, entries: &[Entry], from: u64) -> Result<Vec<E
 }
 
 /// The ten rows from rank 10 `k` on, as far as the table has them.
-pub fn rows_from(alloc: Global, table: &Table, k: u32) -> Result<Vec<Row>, AllocError>
-    ensures { IfOk result (λ list. list.items ≡ page (10 * k) 10 table.now.lines) }
+pub fn rows_from(alloc: Global, people: &People, k: u32) -> Result<Vec<Row>, AllocError>
+    ensures { IfOk result (λ list. list.items ≡ page (10 * k) 10 people.now.scores.lines) }
 {
-    let from = table.len().min(k.saturating_mul(MOST_ROWS));
-    table.page(alloc, from, MOST_ROWS)
-}
-
-/// All rows of the table.
-pub fn all_rows(alloc: Global, table: &Table) -> Result<Vec<Row>, AllocError>
-    ensures { IfOk result (λ all. all.items ≡ rows table.now.lines) }
-{
-    table.page(alloc, 0, table.len())
+    rows_are_the_lines();
+    let from = people.entered().min(k.saturating_mul(MOST_ROWS));
+    people.page(alloc, from, MOST_ROWS)
 }

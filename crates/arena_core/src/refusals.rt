@@ -1,8 +1,19 @@
 ghost use Rattle.std.specs.Prelude.{◌≡◌};
-ghost use Rattle.history.specs.Legal.{enter_refusal, pause_refusal, leave_refusal, or_full};
+ghost use Rattle.arena_rules.specs.Verdicts.{closed_or, enter_refusal, pause_refusal, leave_refusal};
 
-use entries::{Entry, MAX_ENTRIES};
-use history::{Refusal, Wish};
+use arena_rules::{Refusal, Wish};
+use entries::Setup;
+
+/// Closed at the arena's end and past it, and otherwise what follows.
+pub fn closed_or(setup: &Setup, t: u64, next: Option<Refusal>) -> Option<Refusal>
+    ensures { result ≡ closed_or setup.now t next }
+{
+    if setup.ends <= t {
+        Some(Refusal::Closed)
+    } else {
+        next
+    }
+}
 
 /// Whether a player of this wish may enter.
 pub fn enter_refusal(wish: Wish) -> Option<Refusal>
@@ -35,15 +46,5 @@ pub fn leave_refusal(wish: Wish) -> Option<Refusal>
         Wish::Absent => Some(Refusal::NotEntered),
         Wish::In | Wish::Paused => None,
         Wish::Left => Some(Refusal::Left),
-    }
-}
-
-/// What refuses a command, where the journal may be full besides.
-pub fn or_full(entries: &[Entry], refusal: Option<Refusal>) -> Option<Refusal>
-    ensures { result ≡ or_full entries.now refusal }
-{
-    match refusal {
-        None if entries.len() as u64 >= MAX_ENTRIES => Some(Refusal::Full),
-        _ => refusal,
     }
 }

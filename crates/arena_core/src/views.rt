@@ -1,9 +1,9 @@
 ghost use Rattle.std.specs.Prelude.{◌≡◌};
-ghost use Rattle.history.specs.Views.{phase};
+ghost use Rattle.arena_rules.specs.Views.{phase};
 ghost use Rattle.arena_core.specs.Views.{me_by};
 
+use arena_rules::{MeView, Phase, PlayerSeat};
 use entries::Setup;
-use history::{MeView, Phase, PlayerSeat};
 use ranking::Row;
 
 /// Where an arena of this setup stands at a stamp.

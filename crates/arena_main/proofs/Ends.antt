@@ -1,7 +1,7 @@
 -- What a run has done, from the end of its replay and what came behind.
 use Rattle.std.proofs.Common.{◌≡◌, ℕ, List, [], Option, Some, None, IfSome, refl, sym, ap, subst, ◌∙◌, append-nil, inl, inr}
 use Rattle.conn.specs.Told.{Gained}
-use Rattle.journal_text.specs.declared.fault.JournalFault.{JournalFault}
+use Rattle.first_text.specs.declared.fault.JournalFault.{JournalFault}
 use Rattle.replay.specs.declared.replay_end.IllegalCause.{IllegalCause}
 use Rattle.replay.specs.declared.replay_end.ReplayEnd.{ReplayEnd}
 use Rattle.replay.specs.declared.replay_end.ReplayEnd.TheVariants as end

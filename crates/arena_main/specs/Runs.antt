@@ -8,7 +8,7 @@ use Rattle.arena_main.specs.declared.status.Status.TheVariants.{Done, BadWords, 
 use Rattle.replay.specs.Fates as fate
 use Rattle.replay.specs.Fates.{Fate}
 use Rattle.replay.specs.Replays.{HadFate, IsReadToEnd}
-use Rattle.journal_text.specs.declared.fault.JournalFault.{JournalFault}
+use Rattle.first_text.specs.declared.fault.JournalFault.{JournalFault}
 use Rattle.replay.specs.declared.replay_end.IllegalCause.{IllegalCause}
 use Rattle.arena_main.specs.Words.{cause_line, journal_word, illegal_word}
 use Rattle.arena_main.specs.declared.telling.TellFault.{TellFault}

@@ -3,8 +3,8 @@ use Rattle.std.specs.Prelude.{ℕ, List, [], ◌∷◌, ◌++◌, codes}
 use Rattle.std.specs.Fmt.{decimal}
 use Rattle.history.specs.declared.refusal.Refusal.{Refusal}
 use Rattle.history.specs.declared.refusal.Refusal.TheVariants as refusal
-use Rattle.journal_text.specs.declared.fault.JournalCause.{JournalCause}
-use Rattle.journal_text.specs.declared.fault.JournalCause.TheVariants as journal
+use Rattle.first_text.specs.declared.fault.JournalCause.{JournalCause}
+use Rattle.first_text.specs.declared.fault.JournalCause.TheVariants as journal
 use Rattle.replay.specs.declared.replay_end.IllegalCause.{IllegalCause}
 use Rattle.replay.specs.declared.replay_end.IllegalCause.TheVariants.{StampFalls, Refused}
 

@@ -6,8 +6,8 @@ ghost use Rattle.arena_main.specs.Runs.{Tells, Finishes};
 
 use crate::status::Status;
 use conn::{Sink, write_all};
+use first_text::JournalCause;
 use history::Refusal;
-use journal_text::JournalCause;
 use replay::{IllegalCause, ReplayEnd};
 use std::alloc::{AllocError, Global};
 

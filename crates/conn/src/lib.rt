@@ -1,8 +1,10 @@
-//! The outside: texts, lists, and where bytes come from and go to, with forms of both in memory and adapters over the readers
-//! and writers of the standard library. The layers above rely on two things: the bytes that a source gives and a sink takes,
-//! where these are told, and that `Failed` comes only where the object's own count of faults rose or stands at its last value.
+//! The outside: texts, lists, clocks, and where bytes come from and go to, with forms of these in memory and adapters over the
+//! readers and writers of the standard library. The layers above rely on three things: the bytes that a source gives and a sink
+//! takes, where these are told; that `Failed` comes only where the object's own count of faults rose or stands at its last
+//! value; the moments that a clock gives, where it tells them.
 #![tactic(auto)]
 
+mod clock;
 mod list;
 mod mem_sink;
 mod mem_source;
@@ -13,6 +15,7 @@ mod text;
 mod write_whole;
 mod writing;
 
+pub use clock::{Clock, MemClock};
 pub use list::List;
 pub use mem_sink::MemSink;
 pub use mem_source::MemSource;

@@ -1,6 +1,6 @@
 use crate::{
-    List, MemSink, MemSource, ReadAllFault, Reading, Sink, Source, Text, Writing, read_all,
-    write_all,
+    Clock, List, MemClock, MemSink, MemSource, ReadAllFault, Reading, Sink, Source, Text, Writing,
+    read_all, write_all,
 };
 use std::io::{Read, Write};
 use std::test::Fail;
@@ -76,6 +76,18 @@ fn a_write_ends_whole_or_with_what_came_before_the_fault(rt: HostRuntime) -> Res
     Ok(())
 }
 
+#[test]
+fn a_clock_gives_its_moments_and_then_the_last_again(rt: HostRuntime) -> Result<(), Fail> {
+    let alloc = rt.alloc();
+    let mut clock = MemClock::new(Vec::from_slice(alloc, [5, 9].as_slice())?);
+    for moment in [5, 9, 9] {
+        assert_eq!(rt; clock.now(), moment);
+    }
+    let mut silent = MemClock::new(Vec::new(alloc));
+    assert_eq!(rt; silent.now(), 0);
+    Ok(())
+}
+
 fn can_be_sent<T: Send>(_value: &T) {}
 
 // Each type of this crate can be sent between threads where its parts can.
@@ -86,6 +98,7 @@ fn all_can_be_sent<T: Send, R: Read + Send, W: Write + Send>(
     sink: &MemSink,
     reading: &Reading<R>,
     writing: &Writing<W>,
+    clock: &MemClock,
 ) {
     can_be_sent(list);
     can_be_sent(text);
@@ -93,6 +106,7 @@ fn all_can_be_sent<T: Send, R: Read + Send, W: Write + Send>(
     can_be_sent(sink);
     can_be_sent(reading);
     can_be_sent(writing);
+    can_be_sent(clock);
 }
 
 #[test]
@@ -103,7 +117,8 @@ fn what_this_crate_makes_can_be_sent(rt: HostRuntime) -> Result<(), Fail> {
     let source = MemSource::new(Vec::new(alloc), 1, Vec::new(alloc));
     let sink = MemSink::new(alloc, 0, 1, Vec::new(alloc))?;
     let (reading, writing) = (Reading::new(rt.stdin()), Writing::new(rt.stdout()));
-    all_can_be_sent(&list, &text, &source, &sink, &reading, &writing);
+    let clock = MemClock::new(Vec::new(alloc));
+    all_can_be_sent(&list, &text, &source, &sink, &reading, &writing, &clock);
     assert_eq!(rt; list.into_vec().as_slice(), [1, 2].as_slice());
     assert_eq!(rt; text.bytes(), b"text".as_slice());
     Ok(())

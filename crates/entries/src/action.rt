@@ -1,3 +1,5 @@
+ghost use Rattle.entries.specs.Ranges.{IsAction};
+
 use board::Move;
 
 /// What a player may do in a game of his.
@@ -17,4 +19,21 @@ pub enum Action {
     Claim,
     /// He gives half of his time away for a further point if he wins.
     Berserk,
+}
+
+impl Action {
+    /// Says to a caller what every action keeps, that a move can be named, and does nothing.
+    pub fn keeps(&self)
+        ensures { IsAction self.now }
+    {
+        match self {
+            Action::Move(m) => m.keeps(),
+            Action::Resign
+            | Action::Offer
+            | Action::Accept
+            | Action::Decline
+            | Action::Claim
+            | Action::Berserk => {}
+        }
+    }
 }

@@ -1,7 +1,9 @@
+use crate::action::Action;
 use crate::setup::Setup;
 use conn::List;
 
-/// What an entry of a journal did. A number names a player by his place in the setup, from 0.
+/// What an entry of a journal did. A number names a player by his place in the setup, from 0, and a game by how many games were
+/// begun before it.
 #[derive(Debug, Clone, Copy, PartialEq, Eq)]
 pub enum What {
     /// The player entered.
@@ -10,6 +12,12 @@ pub enum What {
     Pause(u32),
     /// The player left for good.
     Leave(u32),
+    /// The player acted in the game, which is named behind him.
+    Act(u32, u32, Action),
+    /// The clocks were looked at, and every game that was due ended.
+    Tick,
+    /// A wave was started, of the plan of so many first entries.
+    Wave(u64),
 }
 
 /// One event of an arena.
@@ -23,9 +31,22 @@ pub struct Entry {
     pub what: What,
 }
 
+/// A game that was started: the number of the wave's entry, from 0, and the two players.
+#[derive(Debug, Clone, Copy, PartialEq, Eq)]
+pub struct Start {
+    pub entry: u64,
+    pub white: u32,
+    pub black: u32,
+}
+
 /// An arena's setup and all that happened in it, in order.
 #[derive(Debug, Drop)]
 pub struct Journal {
     pub setup: Setup,
+    /// Of which version its text is: 1, which is under the first pairing rule and lists no games, or 2, which lists the games of
+    /// each wave.
+    pub version: u32,
     pub entries: List<Entry>,
+    /// In version 2 the games that the waves started, in order; in version 1 none.
+    pub starts: List<Start>,
 }

@@ -37,6 +37,8 @@ pub struct Setup {
     pub wave_ms: u64,
     /// How many players of a team count for it: 1 to 20.
     pub leaders: u32,
+    /// By which of the two pairing rules a wave is planned: 1 or 2.
+    pub rule: u32,
     /// Up to 100 names of teams, no two the same.
     pub teams: List<Text>,
     /// 1 to 1,000 players. A player's number is his place here, from 0.

@@ -23,7 +23,7 @@ use Rattle.game_clock.specs.Clocks.{Clocks, clocks, berserk_of, is_due, after_mo
 use Rattle.game_clock.proofs.MoreEvents.{clocks_move, clocks_berserk}
 use Rattle.game_room.specs.declared.header.Header.{Header}
 use Rattle.game_room.specs.declared.ending.Ending.{Ending}
-use Rattle.game_room.specs.Events.{IsAction}
+use Rattle.entries.specs.Ranges.{IsAction}
 use Rattle.game_room.specs.Standing.{Standing}
 use Rattle.game_room.specs.Endings.{claim_cause, claim_ending, ending_after_move, due_ending, outcome_if_ended, offer_unless_ended}
 use Rattle.game_room.specs.Refusals.{own_refusal}

@@ -18,7 +18,8 @@ use Rattle.game_room.specs.declared.header.Header.{Header}
 use Rattle.game_room.specs.declared.outcome.Outcome.{Outcome}
 use Rattle.game_room.specs.declared.refusal.ActRefusal.{ActRefusal}
 use Rattle.game_room.specs.declared.refusal.ActRefusal.TheVariants as refused
-use Rattle.game_room.specs.Events.{Event, act_of, tick_at, IsAction}
+use Rattle.game_room.specs.Events.{Event, act_of, tick_at}
+use Rattle.entries.specs.Ranges.{IsAction}
 use Rattle.game_room.specs.Standing.{Standing, is_game_due}
 use Rattle.game_room.specs.Refusals.{own_refusal, refusal}
 use Rattle.game_room.specs.Games.{Game, standing_of, standing, game, outcome, allowed, allowed_unless, due, answer, answer_with, done_with, ticked, view_of, game_view, moves}

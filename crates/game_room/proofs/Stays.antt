@@ -3,15 +3,17 @@ use Rattle.std.proofs.Common.{◌≡◌, ℕ, List, [], ◌∷◌, ◌++◌, fol
 use Rattle.std.specs.Prelude.{is_some, is_none}
 use Rattle.std.proofs.lemmas.List.Sums.{fold-append}
 use Rattle.board.specs.declared.piece.Colour.{Colour}
+use Rattle.board.specs.declared.piece.Colour.TheVariants.{White, Black}
 use Rattle.entries.specs.declared.action.Action.{Action}
-use Rattle.game_clock.specs.Clocks.{clocks, is_due}
+use Rattle.game_clock.specs.Clocks.{clocks, is_due, left}
 use Rattle.game_room.specs.declared.header.Header.{Header}
 use Rattle.game_room.specs.declared.outcome.Outcome.{Outcome}
 use Rattle.game_room.specs.declared.refusal.ActRefusal.{ActRefusal}
 use Rattle.game_room.specs.declared.refusal.ActRefusal.TheVariants as refused
 use Rattle.game_room.specs.Events.{Event, act_of, tick_at}
+use Rattle.game_room.specs.Standing.{Standing}
 use Rattle.game_room.specs.Refusals.{own_refusal, refusal}
-use Rattle.game_room.specs.Games.{Game, new_game, standing_of, standing, game, after_event, due, allowed, allowed_unless, outcome}
+use Rattle.game_room.specs.Games.{Game, new_game, standing_of, standing, game, after_event, due, allowed, allowed_unless, outcome, reading_stamp, view_of, game_view}
 use Rattle.game_room.proofs.Steps.{after_event-over, after_event-tick, after_event-refused, some_is}
 
 -- the game of a list goes on from that of its beginning
@@ -32,6 +34,18 @@ over_stays h g o (e ∷ later) over =
 pub ended_stays : (h : Header) (events later : List Event) (o : Outcome) → outcome h events ≡ Some o → game h (events ++ later) ≡ game h events
 unfolding outcome
 ended_stays h events later o over = game-append h events later ∙ over_stays h (game h events) o later over
+
+-- in an ended game the clocks are read at its end
+read_at_end : (h : Header) (s : Standing) (o : Outcome) (t : ℕ) → s.outcome ≡ Some o → view_of h s t ≡ view_of h s o.stamp
+unfolding view_of
+read_at_end h s o t over =
+    let read : reading_stamp s.outcome t ≡ reading_stamp s.outcome o.stamp = ap (λ x. reading_stamp x t) over ∙ sym (ap (λ x. reading_stamp x o.stamp) over) in
+    ap (λ u. record { id = h.id; white = h.white; black = h.black; position = s.position; plies = s.clocks.moves; last = s.last; offer = s.offer; white_ms = left s.clocks White u; black_ms = left s.clocks Black u; white_berserk = s.clocks.white_berserk; black_berserk = s.clocks.black_berserk; outcome = s.outcome }) read
+
+pub ended_view_stays : (h : Header) (events later : List Event) (o : Outcome) (t : ℕ) → outcome h events ≡ Some o → game_view h (events ++ later) t ≡ game_view h events o.stamp
+unfolding game_view standing standing_of outcome
+ended_view_stays h events later o t over =
+    ap (λ g. view_of h (standing_of h g) t) (ended_stays h events later o over) ∙ read_at_end h (standing_of h (game h events)) o t over
 
 refused_by : (h : Header) (g : Game) (side : Colour) (a : Action) (t : ℕ) (r : ActRefusal) (o : Option Outcome) (d : Bool)
     → g.outcome ≡ o → is_due (clocks h.control h.start g.clock) t ≡ d

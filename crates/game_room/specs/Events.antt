@@ -1,9 +1,7 @@
 -- The events of a game.
 use Rattle.std.specs.Prelude.{ℕ}
 use Rattle.board.specs.declared.piece.Colour.{Colour}
-use Rattle.board.specs.Moves.{IsMove}
 use Rattle.entries.specs.declared.action.Action.{Action}
-use Rattle.entries.specs.declared.action.Action.TheVariants as action
 
 -- a side acted, or it was looked whether the game is due
 pub data Deed : Type 0 where
@@ -22,8 +20,3 @@ act_of side a t = record { stamp = t; deed = Acted side a }
 -- a look at a stamp
 abbrev pub tick_at : ℕ → Event
 tick_at t = record { stamp = t; deed = Ticked }
-
--- a move that is made can be named
-abbrev pub IsAction : Action → Type 0
-IsAction (action.Move m) = IsMove m
-IsAction _ = Unit {0}

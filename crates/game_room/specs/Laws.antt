@@ -20,13 +20,18 @@ use Rattle.game_room.specs.declared.refusal.ActRefusal.TheVariants as refused
 use Rattle.game_room.specs.Events.{Event, act_of, tick_at}
 use Rattle.game_room.specs.Endings.{due_ending, outcome_at}
 use Rattle.game_room.specs.Standing.{has_offered, is_offer_of}
-use Rattle.game_room.specs.Games.{game, standing, moves, outcome, due, allowed}
+use Rattle.game_room.specs.Games.{game, standing, moves, outcome, due, allowed, game_view}
 use Rattle.game_room.specs.Held.{Held, StandsFor}
 use Rattle.game_room.specs.Meanings.{IsDone, DoneAt, is_answer, IsUnrefused, ends_by, move_in, OutcomeTells, EndingAt}
 
 -- an ended game stays as it is, whatever events follow
 abbrev pub EndedStays : Type 0
 EndedStays = (h : Header) (events later : List Event) (o : Outcome) → outcome h events ≡ Some o → game h (events ++ later) ≡ game h events
+
+-- what can be seen of an ended game is what could be seen at its end, whatever events follow and whenever one looks
+abbrev pub EndedViewStays : Type 0
+EndedViewStays = (h : Header) (events later : List Event) (o : Outcome) (t : ℕ)
+    → outcome h events ≡ Some o → game_view h (events ++ later) t ≡ game_view h events o.stamp
 
 -- in an ended game any action is refused
 abbrev pub EndedRefuses : Type 0

@@ -1,4 +1,4 @@
-ghost use Rattle.game_room.specs.Laws.{EndedStays, RefusedIsNoEvent, LookChangesNothing, EndedRefuses};
+ghost use Rattle.game_room.specs.Laws.{EndedStays, EndedViewStays, RefusedIsNoEvent, LookChangesNothing, EndedRefuses};
 ghost use Rattle.game_room.specs.Laws.{WhichEventEnds, OneEventEnds, OutcomesTell, DueGamesEnd};
 ghost use Rattle.game_room.specs.Laws.{MovesAreDone, PliesAreMoves, OneTurn, TurnBegan, BanksAreExact};
 ghost use Rattle.game_room.specs.Laws.{BerserkMeans, OfferedMeans, OfferMeans, RoomsCount};
@@ -7,6 +7,7 @@ ghost use Rattle.game_room.specs.Laws.{BerserkMeans, OfferedMeans, OfferMeans, R
 /// game is not due.
 pub fn what_changes_nothing()
     ensures ended { EndedStays }
+    ensures seen { EndedViewStays }
     ensures over { EndedRefuses }
     ensures refused { RefusedIsNoEvent }
     ensures look { LookChangesNothing }

@@ -2,7 +2,7 @@ ghost use Rattle.std.specs.Prelude.{◌≡◌, ◌↔◌, ◌<◌, ◌≤◌, �
 ghost use Rattle.entries.specs.Ranges.{IsControl};
 ghost use Rattle.game_clock.specs.Clocks.{is_due, left};
 ghost use Rattle.game_room.specs.declared.header.Header.{Header as GameHeader};
-ghost use Rattle.game_room.specs.Events.{Event, IsAction, act_of, tick_at};
+ghost use Rattle.game_room.specs.Events.{Event, act_of, tick_at};
 ghost use Rattle.game_room.specs.Standing.{is_game_due};
 ghost use Rattle.game_room.specs.Refusals.{refusal};
 ghost use Rattle.game_room.specs.Games.{due, allowed, answer, ticked, game_view, view_of, reading_stamp, done_with, done_by};
@@ -78,6 +78,20 @@ impl Room {
         self.clock.since()
     }
 
+    /// The position on the board.
+    pub fn position(&self) -> &Position
+        ensures { result.now ≡ self.now.position }
+    {
+        &self.position
+    }
+
+    /// How the game ended, or None while it goes on.
+    pub fn outcome(&self) -> Option<Outcome>
+        ensures { result ≡ self.now.outcome }
+    {
+        self.outcome
+    }
+
     /// How many moves were made.
     pub fn plies(&self) -> u32
         ensures { result ≡ self.now.clocks.moves }
@@ -99,7 +113,7 @@ impl Room {
         ensures refused { OnErr result (self.new ≡ self.old) }
     {
         self.has_room();
-        can_be_named(&a);
+        a.keeps();
         match refusal(self, who, &a, t) {
             Some(refusal) => Err(refusal),
             None => Ok(self.accept(who, &a, t)),
@@ -274,20 +288,5 @@ fn done_by(action: &Action) -> Done
         | Action::Decline
         | Action::Claim
         | Action::Berserk => Done::Noted,
-    }
-}
-
-// A move that is made can be named.
-fn can_be_named(action: &Action)
-    ensures { IsAction action.now }
-{
-    match action {
-        Action::Move(m) => m.keeps(),
-        Action::Resign
-        | Action::Offer
-        | Action::Accept
-        | Action::Decline
-        | Action::Claim
-        | Action::Berserk => {}
     }
 }

@@ -347,3 +347,19 @@ fn ten_thousand_moves_are_accepted(rt: HostRuntime) {
         assert_eq!(rt; accepted(), 16);
     }
 }
+
+#[test]
+fn refusals_have_their_numbers(rt: HostRuntime) {
+    let numbers = [
+        ActRefusal::Over as u8,
+        ActRefusal::NotYourTurn as u8,
+        ActRefusal::Illegal as u8,
+        ActRefusal::OfferStands as u8,
+        ActRefusal::NoOffer as u8,
+        ActRefusal::NoClaim as u8,
+        ActRefusal::BerserkLate as u8,
+        ActRefusal::BerserkTwice as u8,
+        ActRefusal::BerserkZero as u8,
+    ];
+    assert_eq!(rt; numbers, [1, 2, 3, 4, 5, 6, 7, 8, 9]);
+}

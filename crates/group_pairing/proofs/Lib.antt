@@ -5,5 +5,7 @@ pub mod Words
 pub mod LeastList
 pub mod Taking
 pub mod Sets
+pub mod Left
 pub mod Choices
-pub mod Pairings
+pub mod Cells
+pub mod Bests

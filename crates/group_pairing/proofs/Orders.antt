@@ -2,6 +2,7 @@
 use Rattle.std.proofs.Common.{◌≡◌, ℕ, zero, suc, ◌<◌, Bool, true, false, ◌&&◌, ◌||◌, ◌==◌, nat_lt, List, [], ◌∷◌, length, slice_index, refl, ap₂, arith}
 use Rattle.std.proofs.lemmas.Bool.Decides.{nat_tests}
 use Rattle.pair_cost.specs.declared.candidate.Candidate.{Candidate}
+use Rattle.pair_cost.specs.declared.candidate.Frame.{Frame}
 use Rattle.group_pairing.specs.Keys.{alone, total_from, comes_before, key, is_smaller}
 
 -- the first of two pairs is smaller by its first parts, or by its second where those are equal
@@ -56,19 +57,19 @@ later_from_first (x ∷ xs) (y ∷ ys) (suc i) inside same less =
 
 -- keys of lists
 
-pub smaller-self : (rows : List Candidate) (max : ℕ) (a : List ℕ) → is_smaller (key rows max a) (key rows max a) ≡ false
-smaller-self rows max a =
-    not_itself (alone a) (first_or_then (total_from rows max 0 a) (total_from rows max 0 a) (comes_before a a))
-    (not_itself (total_from rows max 0 a) (comes_before a a) (comes_before-self a))
+pub smaller-self : (rows : List Candidate) (frame : Frame) (a : List ℕ) → is_smaller (key rows frame a) (key rows frame a) ≡ false
+smaller-self rows frame a =
+    not_itself (alone a) (first_or_then (total_from rows frame 0 a) (total_from rows frame 0 a) (comes_before a a))
+    (not_itself (total_from rows frame 0 a) (comes_before a a) (comes_before-self a))
 
-pub same_from_neither_smaller : (rows : List Candidate) (max : ℕ) (a b : List ℕ) → is_smaller (key rows max a) (key rows max b) ≡ false → is_smaller (key rows max b) (key rows max a) ≡ false → a ≡ b
-same_from_neither_smaller rows max a b h k =
-    let outer = both_not (alone a) (alone b) (first_or_then (total_from rows max 0 a) (total_from rows max 0 b) (comes_before a b)) (first_or_then (total_from rows max 0 b) (total_from rows max 0 a) (comes_before b a)) h k in
-    let inner = both_not (total_from rows max 0 a) (total_from rows max 0 b) (comes_before a b) (comes_before b a) outer.1 outer.2 in
+pub same_from_neither_smaller : (rows : List Candidate) (frame : Frame) (a b : List ℕ) → is_smaller (key rows frame a) (key rows frame b) ≡ false → is_smaller (key rows frame b) (key rows frame a) ≡ false → a ≡ b
+same_from_neither_smaller rows frame a b h k =
+    let outer = both_not (alone a) (alone b) (first_or_then (total_from rows frame 0 a) (total_from rows frame 0 b) (comes_before a b)) (first_or_then (total_from rows frame 0 b) (total_from rows frame 0 a) (comes_before b a)) h k in
+    let inner = both_not (total_from rows frame 0 a) (total_from rows frame 0 b) (comes_before a b) (comes_before b a) outer.1 outer.2 in
     same_from_neither a b inner.1 inner.2
 
-pub smaller-trans : (rows : List Candidate) (max : ℕ) (a b c : List ℕ) → is_smaller (key rows max a) (key rows max b) ≡ true → is_smaller (key rows max b) (key rows max c) ≡ true → is_smaller (key rows max a) (key rows max c) ≡ true
-smaller-trans rows max a b c h k =
-    chained (alone a) (alone b) (alone c) (first_or_then (total_from rows max 0 a) (total_from rows max 0 b) (comes_before a b)) (first_or_then (total_from rows max 0 b) (total_from rows max 0 c) (comes_before b c)) (first_or_then (total_from rows max 0 a) (total_from rows max 0 c) (comes_before a c))
-    (chained (total_from rows max 0 a) (total_from rows max 0 b) (total_from rows max 0 c) (comes_before a b) (comes_before b c) (comes_before a c) (comes_before-trans a b c))
+pub smaller-trans : (rows : List Candidate) (frame : Frame) (a b c : List ℕ) → is_smaller (key rows frame a) (key rows frame b) ≡ true → is_smaller (key rows frame b) (key rows frame c) ≡ true → is_smaller (key rows frame a) (key rows frame c) ≡ true
+smaller-trans rows frame a b c h k =
+    chained (alone a) (alone b) (alone c) (first_or_then (total_from rows frame 0 a) (total_from rows frame 0 b) (comes_before a b)) (first_or_then (total_from rows frame 0 b) (total_from rows frame 0 c) (comes_before b c)) (first_or_then (total_from rows frame 0 a) (total_from rows frame 0 c) (comes_before a c))
+    (chained (total_from rows frame 0 a) (total_from rows frame 0 b) (total_from rows frame 0 c) (comes_before a b) (comes_before b c) (comes_before a c) (comes_before-trans a b c))
     h k

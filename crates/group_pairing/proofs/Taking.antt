@@ -1,10 +1,11 @@
 -- A pair put into a list in which two places have nobody, and taken out again.
 use Rattle.std.specs.Prelude.{Option, Some, None}
-use Rattle.std.proofs.Common.{◌≡◌, ◌≢◌, ℕ, ◌<◌, ◌≤◌, inl, inr, not, true, IsTrue, List, length, slice_get, set, slice_index, refl, sym, ◌∙◌, ap, subst, arith, get_or-set_same, get_or-set_other, length-set, ext_get_or}
+use Rattle.std.proofs.Common.{◌≡◌, ◌≢◌, ℕ, ◌<◌, ◌≤◌, inl, inr, Bool, true, false, not, ◌&&◌, ◌||◌, IsTrue, List, length, slice_get, set, slice_index, refl, sym, ◌∙◌, ap, ap₂, subst, arith, get_or-set_same, get_or-set_other, length-set, ext_get_or}
 use Rattle.std.proofs.lemmas.Bool.{cases_eq}
 use Rattle.std.proofs.lemmas.Bool.Decides.{nat_tests}
 use Rattle.pair_cost.specs.declared.candidate.Candidate.{Candidate}
-use Rattle.pair_cost.specs.Cost.{same_team}
+use Rattle.pair_cost.specs.declared.candidate.Frame.{Frame}
+use Rattle.pair_cost.specs.Cost.{same_team, bars_rematch, met_last}
 use Rattle.group_pairing.specs.Lists.{may_meet, may_pair, is_partner_list}
 use Rattle.group_pairing.proofs.Places.{Met, Placed, paired_from, paired_to}
 
@@ -53,53 +54,60 @@ same_team-comm None (Some y) = refl
 same_team-comm (Some x) None = refl
 same_team-comm (Some x) (Some y) = grind (arith, nat_tests)
 
-may_meet-comm : (a b : Option Candidate) → may_meet a b ≡ may_meet b a
-may_meet-comm None None = refl
-may_meet-comm None (Some b) = refl
-may_meet-comm (Some a) None = refl
-may_meet-comm (Some a) (Some b) = ap not (same_team-comm a.team b.team)
+and-comm : (a b : Bool) → (a && b) ≡ (b && a)
+and-comm true true = refl
+and-comm true false = refl
+and-comm false true = refl
+and-comm false false = refl
 
-may_pair-comm : (rows : List Candidate) (i j : ℕ) → may_pair rows i j ≡ may_pair rows j i
+may_meet-comm : (frame : Frame) (a b : Option Candidate) → may_meet frame a b ≡ may_meet frame b a
+may_meet-comm frame None None = refl
+may_meet-comm frame None (Some b) = refl
+may_meet-comm frame (Some a) None = refl
+may_meet-comm frame (Some a) (Some b) =
+    ap₂ (λ team again. not (team || (bars_rematch frame && again))) (same_team-comm a.team b.team) (and-comm (met_last a.last b.player) (met_last b.last a.player))
+
+may_pair-comm : (rows : List Candidate) (frame : Frame) (i j : ℕ) → may_pair rows frame i j ≡ may_pair rows frame j i
 unfolding may_pair
-may_pair-comm rows i j = may_meet-comm (slice_get rows i) (slice_get rows j)
+may_pair-comm rows frame i j = may_meet-comm frame (slice_get rows i) (slice_get rows j)
 
 -- a place that is not one of the two keeps its partner where the partner is not one of them either
-kept_met : (rows : List Candidate) (base : List ℕ) (p q x y i : ℕ) → i ≢ p → i ≢ q → Met rows base i → slice_index base i ≢ p → slice_index base i ≢ q → Met rows (both_set base p q x y) i
-kept_met rows base p q x y i not_p not_q met j_not_p j_not_q =
+kept_met : (rows : List Candidate) (frame : Frame) (base : List ℕ) (p q x y i : ℕ) → i ≢ p → i ≢ q → Met rows frame base i → slice_index base i ≢ p → slice_index base i ≢ q → Met rows frame (both_set base p q x y) i
+kept_met rows frame base p q x y i not_p not_q met j_not_p j_not_q =
     let same = at_other base p q x y i not_p not_q in
     record {
       inside = subst (λ k. k < length rows) (sym same) met.inside;
       other = λ e. met.other (sym same ∙ e);
       back = ap (λ k. slice_index (both_set base p q x y) k) same ∙ at_other base p q x y (slice_index base i) j_not_p j_not_q ∙ met.back;
-      may = subst (λ k. may_pair rows i k ≡ true) (sym same) met.may;
+      may = subst (λ k. may_pair rows frame i k ≡ true) (sym same) met.may;
     }
 
 -- the list with one pair more is a partner list
-pub paired_is_list : (rows : List Candidate) (base : List ℕ) (p q : ℕ) → Free rows base p q → may_pair rows p q ≡ true → IsTrue (is_partner_list rows base) → IsTrue (is_partner_list rows (paired base p q))
-paired_is_list rows base p q free there list =
-    let back = may_pair-comm rows q p ∙ there in
-    let was = paired_from rows base list in
+pub paired_is_list : (rows : List Candidate) (frame : Frame) (base : List ℕ) (p q : ℕ) → Free rows base p q → may_pair rows frame p q ≡ true → IsTrue (is_partner_list rows frame base) → IsTrue (is_partner_list rows frame (paired base p q))
+paired_is_list rows frame base p q free there list =
+    let back = may_pair-comm rows frame q p ∙ there in
+    let was = paired_from rows frame base list in
     let first = at_first rows base p q q p free.two in
     let second = at_second rows base p q q p free.two in
-    paired_to rows (paired base p q) (record {
+    paired_to rows frame (paired base p q) (record {
       size = simp length-set was.size;
       each = λ i inside. elim (cases_eq i p) [
-        | inl is_p ↦ subst (λ k. Placed rows (paired base p q) k) (sym is_p) (inr (record {
+        | inl is_p ↦ subst (λ k. Placed rows frame (paired base p q) k) (sym is_p) (inr (record {
           inside = subst (λ k. k < length rows) (sym first) free.two.inside;
           other = λ e. omega (arith, first, e, free.two.up);
           back = ap (λ k. slice_index (paired base p q) k) first ∙ second;
-          may = subst (λ k. may_pair rows p k ≡ true) (sym first) there;
+          may = subst (λ k. may_pair rows frame p k ≡ true) (sym first) there;
         }))
         | inr not_p ↦ elim (cases_eq i q) [
-          | inl is_q ↦ subst (λ k. Placed rows (paired base p q) k) (sym is_q) (inr (record {
+          | inl is_q ↦ subst (λ k. Placed rows frame (paired base p q) k) (sym is_q) (inr (record {
             inside = subst (λ k. k < length rows) (sym second) (omega (arith, free.two.up, free.two.inside));
             other = λ e. omega (arith, second, e, free.two.up);
             back = ap (λ k. slice_index (paired base p q) k) second ∙ first;
-            may = subst (λ k. may_pair rows q k ≡ true) (sym second) back;
+            may = subst (λ k. may_pair rows frame q k ≡ true) (sym second) back;
           }))
           | inr not_q ↦ elim (was.each i inside) [
             | inl nobody ↦ inl (at_other base p q q p i not_p not_q ∙ nobody)
-            | inr met ↦ inr (kept_met rows base p q q p i not_p not_q met
+            | inr met ↦ inr (kept_met rows frame base p q q p i not_p not_q met
                 (λ e. let b = subst (λ k. slice_index base k ≡ i) e met.back in omega (arith, b, free.first, inside, free.two.few))
                 (λ e. let b = subst (λ k. slice_index base k ≡ i) e met.back in omega (arith, b, free.second, inside, free.two.few)))
           ]
@@ -108,19 +116,19 @@ paired_is_list rows base p q free there list =
     })
 
 -- of two places that name each other, the second names the first
-pub named_back : (rows : List Candidate) (base : List ℕ) (p q : ℕ) → Two rows base p q → IsTrue (is_partner_list rows base) → slice_index base p ≡ q → Met rows base p
-named_back rows base p q two list at =
-    elim ((paired_from rows base list).each p (omega (arith, two.up, two.inside))) [
+pub named_back : (rows : List Candidate) (frame : Frame) (base : List ℕ) (p q : ℕ) → Two rows base p q → IsTrue (is_partner_list rows frame base) → slice_index base p ≡ q → Met rows frame base p
+named_back rows frame base p q two list at =
+    elim ((paired_from rows frame base list).each p (omega (arith, two.up, two.inside))) [
       | inl nobody ↦ absurd (omega (arith, nobody, at, two.inside, two.few))
       | inr met ↦ met
     ]
 
 -- the list with one pair less is a partner list
-pub unpaired_is_list : (rows : List Candidate) (base : List ℕ) (p q : ℕ) → Two rows base p q → IsTrue (is_partner_list rows base) → slice_index base p ≡ q → IsTrue (is_partner_list rows (unpaired base p q))
-unpaired_is_list rows base p q two list at =
-    let was = paired_from rows base list in
-    let back : slice_index base q ≡ p = subst (λ k. slice_index base k ≡ p) at (named_back rows base p q two list at).back in
-    paired_to rows (unpaired base p q) (record {
+pub unpaired_is_list : (rows : List Candidate) (frame : Frame) (base : List ℕ) (p q : ℕ) → Two rows base p q → IsTrue (is_partner_list rows frame base) → slice_index base p ≡ q → IsTrue (is_partner_list rows frame (unpaired base p q))
+unpaired_is_list rows frame base p q two list at =
+    let was = paired_from rows frame base list in
+    let back : slice_index base q ≡ p = subst (λ k. slice_index base k ≡ p) at (named_back rows frame base p q two list at).back in
+    paired_to rows frame (unpaired base p q) (record {
       size = simp length-set was.size;
       each = λ i inside. elim (cases_eq i p) [
         | inl is_p ↦ inl (ap (slice_index (unpaired base p q)) is_p ∙ at_first rows base p q 14 14 two)
@@ -128,7 +136,7 @@ unpaired_is_list rows base p q two list at =
           | inl is_q ↦ inl (ap (slice_index (unpaired base p q)) is_q ∙ at_second rows base p q 14 14 two)
           | inr not_q ↦ elim (was.each i inside) [
             | inl nobody ↦ inl (at_other base p q 14 14 i not_p not_q ∙ nobody)
-            | inr met ↦ inr (kept_met rows base p q 14 14 i not_p not_q met
+            | inr met ↦ inr (kept_met rows frame base p q 14 14 i not_p not_q met
                 (λ e. not_q (sym (subst (λ k. slice_index base k ≡ i) e met.back) ∙ at))
                 (λ e. not_p (sym (subst (λ k. slice_index base k ≡ i) e met.back) ∙ back)))
           ]

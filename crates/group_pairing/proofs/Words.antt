@@ -4,6 +4,7 @@ use Rattle.std.specs.Prelude.{cond, filter}
 use Rattle.std.specs.List.{range_with_len, flat_map}
 use Rattle.std.proofs.lemmas.Bool.{cases_Bool}
 use Rattle.pair_cost.specs.declared.candidate.Candidate.{Candidate}
+use Rattle.pair_cost.specs.declared.candidate.Frame.{Frame}
 use Rattle.group_pairing.specs.Lists.{words, lists, is_partner_list}
 use Rattle.group_pairing.proofs.Places.{Met, paired_from}
 
@@ -74,15 +75,15 @@ word_among (suc n) (x ∷ xs) size low =
     (subst (λ j. Among j (range_with_len 0 15)) (zero-add x) (among_range 0 15 x head))
     (among_map (λ word. x ∷ word) (words n) xs rest)
 
-pub list_among : (rows : List Candidate) (to : List ℕ) → length rows ≤ 14 → IsTrue (is_partner_list rows to) → Among to (lists rows)
+pub list_among : (rows : List Candidate) (frame : Frame) (to : List ℕ) → length rows ≤ 14 → IsTrue (is_partner_list rows frame to) → Among to (lists rows frame)
 unfolding lists
-list_among rows to few list =
-    let places = paired_from rows to list in
-    among_filter (is_partner_list rows) (words (length rows)) to
+list_among rows frame to few list =
+    let places = paired_from rows frame to list in
+    among_filter (is_partner_list rows frame) (words (length rows)) to
     (word_among (length rows) to places.size
-    (λ i inside. ⊎_elim (λ (nobody : slice_index to i ≡ 14). omega (arith, nobody)) (λ (met : Met rows to i). omega (arith, met.inside, few)) (places.each i inside)))
+    (λ i inside. ⊎_elim (λ (nobody : slice_index to i ≡ 14). omega (arith, nobody)) (λ (met : Met rows frame to i). omega (arith, met.inside, few)) (places.each i inside)))
     list
 
-pub among_is_list : (rows : List Candidate) (to : List ℕ) → Among to (lists rows) → IsTrue (is_partner_list rows to)
+pub among_is_list : (rows : List Candidate) (frame : Frame) (to : List ℕ) → Among to (lists rows frame) → IsTrue (is_partner_list rows frame to)
 unfolding lists
-among_is_list rows to h = passes_among (is_partner_list rows) (words (length rows)) to h
+among_is_list rows frame to h = passes_among (is_partner_list rows frame) (words (length rows)) to h

@@ -1,30 +1,40 @@
 -- By what the partner lists of a group are compared.
 use Rattle.std.specs.Prelude.{ℕ, ◌+◌, Bool, true, false, ◌&&◌, ◌||◌, ◌==◌, nat_lt, if◌then◌else◌, List, [], ◌∷◌, Option, Some, None, slice_get, count_by}
-use Rattle.pair_cost.specs.Cost.{cost}
+use Rattle.pair_cost.specs.Cost.{cost, charge}
 use Rattle.pair_cost.specs.declared.candidate.Candidate.{Candidate}
+use Rattle.pair_cost.specs.declared.candidate.Frame.{Frame}
 
 -- how many places have nobody
 unfoldable pub alone : List ℕ → ℕ
 alone to = count_by (λ j. j == 14) to
 
 -- what pairing the two costs, if both are there
-abbrev pub price_of : Option Candidate → Option Candidate → ℕ → ℕ
-price_of None b max = 0
-price_of (Some a) None max = 0
-price_of (Some a) (Some b) max = cost a b max
+abbrev pub price_of : Frame → Option Candidate → Option Candidate → ℕ
+price_of f None b = 0
+price_of f (Some a) None = 0
+price_of f (Some a) (Some b) = cost f a b
 
 -- what pairing the candidates at two places costs
-unfoldable pub price : List Candidate → ℕ → ℕ → ℕ → ℕ
-price rows max i j = price_of (slice_get rows i) (slice_get rows j) max
+unfoldable pub price_at : List Candidate → Frame → ℕ → ℕ → ℕ
+price_at rows f i j = price_of f (slice_get rows i) (slice_get rows j)
 
--- what place i adds where its item is j: a pair is counted once, at the smaller of its places
-unfoldable pub price_once : List Candidate → ℕ → ℕ → ℕ → ℕ
-price_once rows max i j = if nat_lt i j && nat_lt j 14 then price rows max i j else 0
+-- what leaving him alone costs, if he is there
+abbrev pub charge_of : Frame → Option Candidate → ℕ
+charge_of f None = 0
+charge_of f (Some a) = charge f a
+
+-- what leaving the candidate at a place alone costs
+unfoldable pub charge_at : List Candidate → Frame → ℕ → ℕ
+charge_at rows f i = charge_of f (slice_get rows i)
+
+-- what place i adds where its item is j: a charge where it has nobody, and a pair's price once, at the smaller of its places
+unfoldable pub share : List Candidate → Frame → ℕ → ℕ → ℕ
+share rows f i j = if j == 14 then charge_at rows f i else (if nat_lt i j then price_at rows f i j else 0)
 
 -- what the places from i on add, with these items
-unfoldable pub total_from : List Candidate → ℕ → ℕ → List ℕ → ℕ
-total_from rows max i [] = 0
-total_from rows max i (j ∷ to) = price_once rows max i j + total_from rows max (i + 1) to
+unfoldable pub total_from : List Candidate → Frame → ℕ → List ℕ → ℕ
+total_from rows f i [] = 0
+total_from rows f i (j ∷ to) = share rows f i j + total_from rows f (i + 1) to
 
 -- the first list is before the second in alphabetical order
 unfoldable pub comes_before : List ℕ → List ℕ → Bool
@@ -33,15 +43,15 @@ comes_before [] (y ∷ ys) = true
 comes_before (x ∷ xs) [] = false
 comes_before (x ∷ xs) (y ∷ ys) = nat_lt x y || (x == y && comes_before xs ys)
 
--- how many are left alone, what the pairs cost, and the list itself
+-- how many are left alone, what the list costs, and the list itself
 pub record Key : Type 0 where
   pub alone : ℕ
   pub total : ℕ
   pub list : List ℕ
 
--- the key of a list, with each pair counted once
-abbrev pub key : List Candidate → ℕ → List ℕ → Key
-key rows max to = record { alone = alone to; total = total_from rows max 0 to; list = to }
+-- the key of a list
+abbrev pub key : List Candidate → Frame → List ℕ → Key
+key rows f to = record { alone = alone to; total = total_from rows f 0 to; list = to }
 
 -- the first part in which they differ decides
 abbrev pub is_smaller : Key → Key → Bool

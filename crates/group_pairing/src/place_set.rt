@@ -1,5 +1,6 @@
-ghost use Rattle.std.specs.Prelude.{◌≡◌, ◌≢◌, ◌<◌, ◌≤◌, ◌^◌, ◌==◌, ℕ};
+ghost use Rattle.std.specs.Prelude.{◌≡◌, ◌≢◌, ◌<◌, ◌≤◌, ◌^◌, ◌==◌, ◌↔◌, ℕ, IsTrue};
 ghost use Rattle.std.specs.Int.{bit_at};
+ghost use Rattle.group_pairing.specs.Search.{IsFirst, CanBeLeft};
 
 /// How many sets of fourteen places there are. Place i is in a set where bit i of its number is 1.
 pub(crate) const SETS: usize = 16384;
@@ -36,9 +37,17 @@ pub(crate) fn without(set: usize, place: usize) -> usize
 // The first place of a set that has one.
 pub(crate) fn first_of(set: usize) -> usize
     requires { 0 < set }
-    ensures has { bit_at set result ≡ 1 }
-    ensures below { (i : ℕ) → i < result → bit_at set i ≡ 0 }
+    ensures first { IsFirst set result }
     ensures most { result < 64 }
 {
     set.trailing_zeros() as usize
+}
+
+// Whether the set is what can be left of so many places.
+pub(crate) fn can_be_left(set: usize, places: usize) -> bool
+    requires some { 0 < set }
+    requires places { places ≤ 14 }
+    ensures { IsTrue result ↔ CanBeLeft places set }
+{
+    places <= set.count_ones() as usize + 2 * first_of(set)
 }

@@ -7,9 +7,9 @@ use Rattle.std.proofs.lemmas.List.{take-append-le, take_all, take-append-drop, l
 use Rattle.std.proofs.lemmas.List.Elements.{filter-append}
 use Rattle.std.proofs.lemmas.List.Sums.{fold-append}
 use Rattle.entries.specs.declared.setup.Setup.{Setup}
-use Rattle.entries.specs.declared.journal.Entry.{Entry}
-use Rattle.entries.specs.declared.journal.What.{What}
-use Rattle.entries.specs.declared.journal.What.TheVariants.{Enter, Pause, Leave}
+use Rattle.first_journal.specs.declared.journal.Entry.{Entry}
+use Rattle.first_journal.specs.declared.journal.What.{What}
+use Rattle.first_journal.specs.declared.journal.What.TheVariants.{Enter, Pause, Leave}
 use Rattle.history.specs.Games.{games_from, begun}
 use Rattle.history.specs.History.{Start, History, nothing, begun_in, begun_by, after, history, starts_below, first}
 

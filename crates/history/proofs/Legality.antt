@@ -5,9 +5,9 @@ use Rattle.std.proofs.lemmas.Bool.{cases_lt, le-leb}
 use Rattle.std.proofs.lemmas.List.{take-append-le, take_all, take-take, length-take-le, append-nil}
 use Rattle.std.proofs.lemmas.Option.{slice_get-get_or}
 use Rattle.entries.specs.declared.setup.Setup.{Setup}
-use Rattle.entries.specs.declared.journal.Entry.{Entry}
-use Rattle.entries.specs.declared.journal.What.{What}
-use Rattle.entries.specs.declared.journal.What.TheVariants as what
+use Rattle.first_journal.specs.declared.journal.Entry.{Entry}
+use Rattle.first_journal.specs.declared.journal.What.{What}
+use Rattle.first_journal.specs.declared.journal.What.TheVariants as what
 use Rattle.history.specs.declared.command.Command.{Command}
 use Rattle.history.specs.declared.command.Command.TheVariants.{Enter, Pause, Leave}
 use Rattle.history.specs.declared.refusal.Refusal.{Refusal}

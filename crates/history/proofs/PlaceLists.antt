@@ -4,9 +4,9 @@ use Rattle.std.specs.Prelude.{map, slice_set}
 use Rattle.std.specs.List.{range_with_len}
 use Rattle.std.proofs.lemmas.Bool.{ne_eqb, eq-eqb}
 use Rattle.entries.specs.declared.setup.Setup.{Setup}
-use Rattle.entries.specs.declared.journal.Entry.{Entry}
-use Rattle.entries.specs.declared.journal.What.{What}
-use Rattle.entries.specs.declared.journal.What.TheVariants as what
+use Rattle.first_journal.specs.declared.journal.Entry.{Entry}
+use Rattle.first_journal.specs.declared.journal.What.{What}
+use Rattle.first_journal.specs.declared.journal.What.TheVariants as what
 use Rattle.seats.specs.Places.{Place, unknown, place_at, with_place, entered, paused, gone}
 use Rattle.history.specs.History.{history}
 use Rattle.history.specs.Stands.{place, places}

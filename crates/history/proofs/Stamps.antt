@@ -8,10 +8,10 @@ use Rattle.std.proofs.lemmas.List.Sums.{fold_push}
 use Rattle.std.proofs.lemmas.List.Sorted.{IsNonDecreasingBy-from_all_adjacent}
 use Rattle.std.proofs.lemmas.Option.{slice_get-get_or}
 use Rattle.entries.specs.declared.setup.Setup.{Setup}
-use Rattle.entries.specs.declared.journal.Entry.{Entry}
-use Rattle.entries.specs.declared.journal.What.{What}
-use Rattle.entries.specs.declared.journal.What.TheVariants as what
-use Rattle.entries.specs.Ranges.{IsWhatOf, IsEntryOf}
+use Rattle.first_journal.specs.declared.journal.Entry.{Entry}
+use Rattle.first_journal.specs.declared.journal.What.{What}
+use Rattle.first_journal.specs.declared.journal.What.TheVariants as what
+use Rattle.first_journal.specs.Ranges.{IsWhatOf, IsEntryOf}
 use Rattle.history.specs.declared.command.Command.{Command}
 use Rattle.history.specs.declared.command.Command.TheVariants.{Enter, Pause, Leave}
 use Rattle.history.specs.Commands.{IsCommandOf, entry_of}

@@ -10,7 +10,7 @@ use Rattle.std.proofs.lemmas.List.Elements.{All-from_recursion}
 use Rattle.std.proofs.lemmas.List.Quantifiers.{position-Some}
 use Rattle.std.proofs.lemmas.List.Sorted.{All-permutation, list_any-IsPermutation}
 use Rattle.entries.specs.declared.setup.Setup.{Setup}
-use Rattle.entries.specs.declared.journal.Entry.{Entry}
+use Rattle.first_journal.specs.declared.journal.Entry.{Entry}
 use Rattle.ranking.specs.declared.line.Line.{Line}
 use Rattle.ranking.specs.declared.row.Row.{Row}
 use Rattle.ranking.specs.Order.{above, placed, ranked}

@@ -1,7 +1,7 @@
 -- A walk over the entries, where one entry comes more.
 use Rattle.std.proofs.Common.{◌≡◌, ℕ, suc, ◌+◌, ◌≤◌, List, [], ◌∷◌, ◌++◌, length, refl, ap, ◌∙◌, arith, zero-add}
 use Rattle.entries.specs.declared.setup.Setup.{Setup}
-use Rattle.entries.specs.declared.journal.Entry.{Entry}
+use Rattle.first_journal.specs.declared.journal.Entry.{Entry}
 use Rattle.history.specs.History.{History, after, first, along_from, along}
 use Rattle.history.proofs.Histories.{IsWhole, first-after, first_all}
 

@@ -6,9 +6,9 @@ use Rattle.std.proofs.lemmas.List.Folds.{list_any-append}
 use Rattle.std.proofs.lemmas.Bool.{eq-eqb, eqb-true, cases_Bool}
 use Rattle.std.proofs.lemmas.List.{take-take, take-append-drop, append-nil, reverse-append}
 use Rattle.entries.specs.declared.setup.Setup.{Setup}
-use Rattle.entries.specs.declared.journal.Entry.{Entry}
-use Rattle.entries.specs.declared.journal.What.{What}
-use Rattle.entries.specs.declared.journal.What.TheVariants as what
+use Rattle.first_journal.specs.declared.journal.Entry.{Entry}
+use Rattle.first_journal.specs.declared.journal.What.{What}
+use Rattle.first_journal.specs.declared.journal.What.TheVariants as what
 use Rattle.history.specs.declared.command.Command.TheVariants.{Enter, Pause, Leave}
 use Rattle.history.specs.declared.refusal.Refusal.{Refusal}
 use Rattle.history.specs.declared.refusal.Refusal.TheVariants as refusal

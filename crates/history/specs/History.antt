@@ -2,9 +2,9 @@
 -- function of its setup and its history.
 use Rattle.std.specs.Prelude.{ℕ, suc, nat_lt, List, [], ◌∷◌, ◌++◌, take, filter, fold}
 use Rattle.entries.specs.declared.setup.Setup.{Setup}
-use Rattle.entries.specs.declared.journal.Entry.{Entry}
-use Rattle.entries.specs.declared.journal.What.{What}
-use Rattle.entries.specs.declared.journal.What.TheVariants.{Enter, Pause, Leave}
+use Rattle.first_journal.specs.declared.journal.Entry.{Entry}
+use Rattle.first_journal.specs.declared.journal.What.{What}
+use Rattle.first_journal.specs.declared.journal.What.TheVariants.{Enter, Pause, Leave}
 
 -- a game: the number of the entry that started it, and its two players
 pub record Start : Type 0 where

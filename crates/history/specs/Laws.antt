@@ -3,9 +3,9 @@ use Rattle.std.specs.Prelude.{◌≡◌, ◌≢◌, ℕ, ◌<◌, ◌≤◌, ◌
 use Rattle.std.specs.List.{All, AllPairs, Contains}
 use Rattle.std.specs.List.Sorted.{IsNonDecreasingBy}
 use Rattle.entries.specs.declared.setup.Setup.{Setup}
-use Rattle.entries.specs.declared.journal.Entry.{Entry}
-use Rattle.entries.specs.declared.journal.What.TheVariants as what
-use Rattle.entries.specs.Ranges.{IsEntryOf}
+use Rattle.first_journal.specs.declared.journal.Entry.{Entry}
+use Rattle.first_journal.specs.declared.journal.What.TheVariants as what
+use Rattle.first_journal.specs.Ranges.{IsEntryOf}
 use Rattle.seats.specs.declared.wish.Wish.TheVariants as wishes
 use Rattle.ranking.specs.declared.row.Row.{Row}
 use Rattle.ranking.specs.Order.{ranked}

@@ -2,7 +2,7 @@
 use Rattle.std.specs.Prelude.{◌≡◌, ℕ, ◌≤◌, Bool, true, List, length, map}
 use Rattle.std.specs.List.{range_with_len}
 use Rattle.entries.specs.declared.setup.Setup.{Setup}
-use Rattle.entries.specs.declared.journal.Entry.{Entry}
+use Rattle.first_journal.specs.declared.journal.Entry.{Entry}
 use Rattle.seats.specs.declared.wish.PlayerSeat.{PlayerSeat}
 use Rattle.seats.specs.Places.{Place, seat_of, is_idle, since_set}
 use Rattle.history.specs.History.{History, first, after, along}

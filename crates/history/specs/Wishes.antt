@@ -2,9 +2,9 @@
 use Rattle.std.specs.Prelude.{ℕ, ◌==◌, Bool, false, if◌then◌else◌, reverse, Option, Some, None}
 use Rattle.std.specs.List.{list_any, find}
 use Rattle.entries.specs.declared.setup.Setup.{Setup}
-use Rattle.entries.specs.declared.journal.Entry.{Entry}
-use Rattle.entries.specs.declared.journal.What.{What}
-use Rattle.entries.specs.declared.journal.What.TheVariants.{Enter, Pause, Leave}
+use Rattle.first_journal.specs.declared.journal.Entry.{Entry}
+use Rattle.first_journal.specs.declared.journal.What.{What}
+use Rattle.first_journal.specs.declared.journal.What.TheVariants.{Enter, Pause, Leave}
 use Rattle.seats.specs.declared.wish.Wish.{Wish}
 use Rattle.seats.specs.declared.wish.Wish.TheVariants as wishes
 use Rattle.seats.specs.Places.{wish_set}

@@ -1,6 +1,6 @@
 use crate::view::{ArenaView, MeView};
 use conn::List;
-use entries::Entry;
+use first_journal::Entry;
 use ranking::Row;
 use team_battle::TeamRow;
 

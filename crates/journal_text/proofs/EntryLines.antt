@@ -1,257 +1,318 @@
 -- The lines of the entries: what they say is what they were written from, and what was written is read again.
-use Rattle.std.proofs.Common.{◌≡◌, ℕ, ◌^◌, ◌<◌, ◌≤◌, Bool, true, false, cond, eqb, leb, ltb, ◌&&◌, List, [], ◌∷◌, ◌++◌, length, All, Option, Some, None, is_some, Result, Ok, Err, option_and_then, refl, sym, ap, subst, ◌∙◌, arith, inl, inr, append_assoc, append-nil}
-use Rattle.std.specs.Prelude.{codes}
+use Rattle.std.proofs.Common.{◌≡◌, ℕ, ◌^◌, ◌<◌, ◌≤◌, Bool, true, false, cond, eqb, leb, ltb, not, ◌&&◌, List, [], ◌∷◌, ◌++◌, length, map, Option, Some, None, is_some, Ok, option_and_then, refl, sym, ap, subst, ◌∙◌, arith, inl, inr, append_assoc}
+use Rattle.std.specs.Prelude.{codes, IfSome, IsTrue}
 use Rattle.std.specs.Fmt.{decimal}
-use Rattle.std.specs.List.{AllByRecursion, flat_map}
+use Rattle.std.specs.List.{list_all}
 use Rattle.std.specs.Str.{bytes_eq}
-use Rattle.std.proofs.lemmas.Bool.{cases_Bool, and_parts, and_from, and_right, leb-true, le-leb, ltb-true, lt-ltb, ne_eqb}
-use Rattle.std.proofs.lemmas.Slice.Eq.{bytes_eq-Decides}
-use Rattle.std.proofs.lemmas.List.{length-append, length_push}
-use Rattle.std.proofs.lemmas.List.Elements.{All-nil, All-push}
-use Rattle.decimals.specs.Decimals.{number_of}
+use Rattle.std.proofs.lemmas.Bool.{cases_Bool, and_parts, and_from, leb-true, le-leb, ltb-true, lt-ltb}
+use Rattle.std.proofs.lemmas.Bool.Decides.{nat_tests}
+use Rattle.std.proofs.lemmas.List.{length-map}
+use Rattle.board.specs.declared.piece.Kind.{Kind as PieceKind}
+use Rattle.board.specs.declared.piece.Kind.TheVariants.{Pawn, Knight, Bishop, Rook, Queen, King}
+use Rattle.board.specs.Moves.{MoveWord, IsMove, can_be_promo}
+use Rattle.board.specs.Words.{move_word}
+use Rattle.board.specs.Reading.{square_in, kind_in, promotion, promo_in, joined, joined_with, move_in}
+use Rattle.board.proofs.Spelling.{move_in-spells, move_in-word}
 use Rattle.decimals.proofs.DecimalLemmas.{number_of-decimal}
-use Rattle.entries.specs.Ranges.{IsWhatOf, IsEntryOf}
+use Rattle.entries.specs.Ranges.{IsAction, IsWhatOf, IsEntryOf}
+use Rattle.entries.specs.declared.action.Action.{Action}
+use Rattle.entries.specs.declared.action.Action.TheVariants as action
 use Rattle.entries.specs.declared.journal.What.{What}
 use Rattle.entries.specs.declared.journal.What.TheVariants as what
 use Rattle.entries.specs.declared.journal.Entry.{Entry}
-use Rattle.journal_text.specs.declared.entry_lines.Kind.{Kind}
-use Rattle.journal_text.specs.declared.entry_lines.Kind.TheVariants.{Enter, Pause, Leave}
-use Rattle.journal_text.specs.declared.fault.JournalCause.{JournalCause}
-use Rattle.journal_text.specs.declared.fault.JournalCause.TheVariants.{NotBuilt}
-use Rattle.journal_text.specs.declared.fault.JournalFault.{JournalFault}
-use Rattle.journal_text.specs.Lines.{spaced, line, lines_of, words_of, first, two}
-use Rattle.journal_text.specs.Text.{what_words, entry_words, entry_line}
-use Rattle.journal_text.specs.Forms.{formed, ranged, kind_of, what_form, entry_form, entry_fits, what_made, entry_made, begins_unbuilt, is_unbuilt, entry_in}
-use Rattle.journal_text.specs.Reading.{at_line, entry_place, entries_in}
-use Rattle.journal_text.proofs.Fails.{bind_some, guard_some, some, some_is, line_ok, judged_ok, text_ok_is, bind_ok, at_line_ok}
-use Rattle.journal_text.proofs.FormLemmas.{same_word, two_is, first_is, decimal_is, decimal_front}
-use Rattle.journal_text.proofs.WordLemmas.{IsWord, tested_word, words_of-spaced, next-line, IsWord-decimal}
-use Rattle.journal_text.proofs.ReadLines.{joined, spelled_words}
-use Rattle.journal_text.proofs.Steps.{entries_step}
-use Rattle.journal_text.proofs.HeadLines.{number_is_words}
+use Rattle.entries.specs.declared.journal.Start.{Start}
+use Rattle.journal_text.specs.declared.entry_form.Kind.{Kind}
+use Rattle.journal_text.specs.declared.entry_form.Kind.TheVariants as kind
+use Rattle.journal_text.specs.declared.entry_form.Deed.{Deed}
+use Rattle.journal_text.specs.declared.entry_form.Deed.TheVariants.{Enter, Pause, Leave, Act, Tick, Wave}
+use Rattle.journal_text.specs.declared.entry_form.Said.{Said}
+use Rattle.journal_text.specs.Lines.{no_words, next_word}
+use Rattle.journal_text.specs.Text.{action_words, what_words, entry_words, pair_word}
+use Rattle.journal_text.specs.EntryForms.{next_number, kind_of, action_of, action_form, deed_of, are_pairs, ends_well, entry_form, deed_fits, pair_in, pairs_fit, entry_fits, what_made, entry_made, entry_in}
+use Rattle.journal_text.proofs.Fails.{bind_some, guard_some, some, some_is, judged_ok, judged_again}
+use Rattle.journal_text.proofs.FormLemmas.{same_word, next_number_is, next_word_is}
+use Rattle.journal_text.proofs.PairLines.{AreGames, pairs_fit_again, pairs_form_again}
+
+-- ---- moves
+
+-- a square that is read is one of the board
+square_in-below : (f r s : ℕ) → square_in f r ≡ Some s → s < 64
+square_in-below f r s e = grind (arith, nat_tests, some_is)
+
+-- two squares that are read, and what a pawn becomes, are a move
+joined-IsMove : (x y : Option ℕ) (promo : Option PieceKind) (m : MoveWord) → ((s : ℕ) → x ≡ Some s → s < 64) → ((s : ℕ) → y ≡ Some s → s < 64) → can_be_promo promo ≡ true → joined x y promo ≡ Some m → IsMove m
+joined-IsMove None y promo m from to can e = absurd cc
+joined-IsMove (Some a) None promo m from to can e = absurd cc
+joined-IsMove (Some a) (Some b) promo m from to can e = subst IsMove (some_is (record { from = a; to = b; promo = promo }) m e) (record { from = from a refl; to = to b refl; promo = can })
+
+-- what is read as a promotion can be one
+promotion-can : (o p : Option PieceKind) → promotion o ≡ p → can_be_promo p ≡ true
+promotion-can None p e = subst (λ (p : Option PieceKind). can_be_promo p ≡ true) e refl
+promotion-can (Some Pawn) p e = subst (λ (p : Option PieceKind). can_be_promo p ≡ true) e refl
+promotion-can (Some Knight) p e = subst (λ (p : Option PieceKind). can_be_promo p ≡ true) e refl
+promotion-can (Some Bishop) p e = subst (λ (p : Option PieceKind). can_be_promo p ≡ true) e refl
+promotion-can (Some Rook) p e = subst (λ (p : Option PieceKind). can_be_promo p ≡ true) e refl
+promotion-can (Some Queen) p e = subst (λ (p : Option PieceKind). can_be_promo p ≡ true) e refl
+promotion-can (Some King) p e = subst (λ (p : Option PieceKind). can_be_promo p ≡ true) e refl
+
+-- the same with a promotion that may not be there
+joined_with-IsMove : (a b c d : ℕ) (o p : Option PieceKind) (m : MoveWord) → promotion o ≡ p → joined_with (square_in a b) (square_in c d) p ≡ Some m → IsMove m
+joined_with-IsMove a b c d o None m is e = absurd cc
+joined_with-IsMove a b c d o (Some k) m is e = joined-IsMove (square_in a b) (square_in c d) (Some k) m (square_in-below a b) (square_in-below c d) (promotion-can o (Some k) is) e
+
+-- what is read as a move can be named
+move_in-IsMove : (word : List ℕ) (m : MoveWord) → move_in word ≡ Some m → IsMove m
+move_in-IsMove (a ∷ b ∷ c ∷ d ∷ []) m e = joined-IsMove (square_in a b) (square_in c d) None m (square_in-below a b) (square_in-below c d) refl e
+move_in-IsMove (a ∷ b ∷ c ∷ d ∷ p ∷ []) m e = joined_with-IsMove a b c d (kind_in p) (promo_in p) m refl e
+move_in-IsMove [] m e = absurd cc
+move_in-IsMove (a ∷ []) m e = absurd cc
+move_in-IsMove (a ∷ b ∷ []) m e = absurd cc
+move_in-IsMove (a ∷ b ∷ c ∷ []) m e = absurd cc
+move_in-IsMove (a ∷ b ∷ c ∷ d ∷ p ∷ q ∷ more) m e = absurd cc
+
+-- what is read as a move was written so
+move_takes : (word : List ℕ) (m : MoveWord) → move_in word ≡ Some m → word ≡ move_word m
+move_takes word m e = sym (subst (λ (o : Option MoveWord). IfSome o (λ m. move_word m ≡ word)) e (move_in-spells word))
+
+-- ---- what an entry did
+
+-- of a test for one word and those behind it, what was chosen is what the words say
+choose : {K : Type 0} (P : K → Type 0) (word key : List ℕ) (k chosen : K) (others : Option K) → cond (bytes_eq word key) (Some k) others ≡ Some chosen → (word ≡ key → P k) → (others ≡ Some chosen → P chosen) → P chosen
+choose P word key k chosen others e here there =
+    elim (cases_Bool (bytes_eq word key)) [
+      | inl yes-this ↦ subst P (some_is k chosen (rw yes-this at e)) (here (same_word word key yes-this))
+      | inr other ↦ there (rw other at e)
+    ]
+
+-- the word of a kind
+kind_word : Kind → List ℕ
+kind_word kind.Enter = codes "enter"
+kind_word kind.Pause = codes "pause"
+kind_word kind.Leave = codes "leave"
+kind_word kind.Act = codes "act"
+kind_word kind.Tick = codes "tick"
+kind_word kind.Wave = codes "wave"
+
+-- a word that is read as a kind is its word
+kind_takes : (word : List ℕ) (k : Kind) → kind_of word ≡ Some k → word ≡ kind_word k
+unfolding kind_of kind_word
+kind_takes word k e =
+    let P : Kind → Type 0 = λ k. word ≡ kind_word k in
+    choose P word (codes "enter") kind.Enter k _ e (λ is. is) (λ e.
+    choose P word (codes "pause") kind.Pause k _ e (λ is. is) (λ e.
+    choose P word (codes "leave") kind.Leave k _ e (λ is. is) (λ e.
+    choose P word (codes "act") kind.Act k _ e (λ is. is) (λ e.
+    choose P word (codes "tick") kind.Tick k _ e (λ is. is) (λ e.
+    choose P word (codes "wave") kind.Wave k _ e (λ is. is) (λ e. absurd cc))))))
+
+-- words that say an action, and others behind them
+abbrev SaysAction : List (List ℕ) → Action × List (List ℕ) → Type 0
+SaysAction words a = (words ≡ action_words a.0 ++ a.1) × IsAction a.0
+
+-- a word that is read as an action says it
+action_takes : (word : List ℕ) (rest : List (List ℕ)) (a : Action) → action_of word ≡ Some a → SaysAction (word ∷ rest) (a, rest)
+unfolding action_of
+action_takes word rest a e =
+    let P : Action → Type 0 = λ a. SaysAction (word ∷ rest) (a, rest) in
+    let says : (key : List ℕ) → word ≡ key → word ∷ rest ≡ key ∷ rest = λ key is. ap (λ (w : List ℕ). w ∷ rest) is in
+    choose P word (codes "resign") action.Resign a _ e (λ is. (says (codes "resign") is, tt)) (λ e.
+    choose P word (codes "offer") action.Offer a _ e (λ is. (says (codes "offer") is, tt)) (λ e.
+    choose P word (codes "accept") action.Accept a _ e (λ is. (says (codes "accept") is, tt)) (λ e.
+    choose P word (codes "decline") action.Decline a _ e (λ is. (says (codes "decline") is, tt)) (λ e.
+    choose P word (codes "claim") action.Claim a _ e (λ is. (says (codes "claim") is, tt)) (λ e.
+    choose P word (codes "berserk") action.Berserk a _ e (λ is. (says (codes "berserk") is, tt)) (λ e. absurd cc))))))
+
+-- words that are read as a move say it
+move_form_takes : (words : List (List ℕ)) (a : Action × List (List ℕ)) → option_and_then (λ (m : List ℕ × List (List ℕ)). option_and_then (λ (made : MoveWord). some (action.Move made, m.1)) (move_in m.0)) (next_word words) ≡ Some a → SaysAction (codes "move" ∷ words) a
+move_form_takes words a e =
+    let m = bind_some (next_word words) _ a e in
+    let b = bind_some (move_in m.0.0) (λ (made : MoveWord). some (action.Move made, m.0.1)) a m.2 in
+    let words_are : words ≡ move_word b.0 ∷ m.0.1 = next_word_is words m.0 m.1 ∙ ap (λ (w : List ℕ). w ∷ m.0.1) (move_takes m.0.0 b.0 b.1) in
+    subst (SaysAction (codes "move" ∷ words)) (some_is (action.Move b.0, m.0.1) a b.2) (ap (λ (ws : List (List ℕ)). codes "move" ∷ ws) words_are, move_in-IsMove m.0.0 b.0 b.1)
+
+-- words that are read as an action, and others behind them, say it
+action_form_takes : (words : List (List ℕ)) (a : Action × List (List ℕ)) → action_form words ≡ Some a → SaysAction words a
+unfolding action_form
+action_form_takes [] a e = absurd cc
+action_form_takes (word ∷ words) a e =
+    elim (cases_Bool (bytes_eq word (codes "move"))) [
+      | inl move ↦ subst (λ (w : List ℕ). SaysAction (w ∷ words) a) (sym (same_word word (codes "move") move)) (move_form_takes words a (rw move at e))
+      | inr other ↦
+          let b = bind_some (action_of word) (λ did. some (did, words)) a (rw other at e) in
+          subst (SaysAction (word ∷ words)) (some_is (b.0, words) a b.2) (action_takes word words b.0 b.1)
+    ]
+
+-- the action of a deed can be named
+abbrev pub CanBeNamed : Deed → Type 0
+CanBeNamed (Act p g a) = IsAction a
+CanBeNamed _ = Unit {0}
+
+-- words that say what an entry did, and others behind them
+abbrev SaysDeed : List (List ℕ) → Deed × List (List ℕ) → Type 0
+SaysDeed words d = (words ≡ what_words (what_made d.0) ++ d.1) × CanBeNamed d.0
+
+-- a number behind a word
+numbered : (key : List ℕ) (words : List (List ℕ)) (made : ℕ → Deed) (d : Deed × List (List ℕ)) → ((n : ℕ) (rest : List (List ℕ)) → SaysDeed (key ∷ decimal n ∷ rest) (made n, rest)) → option_and_then (λ (p : ℕ × List (List ℕ)). some (made p.0, p.1)) (next_number words) ≡ Some d → SaysDeed (key ∷ words) d
+numbered key words made d says e =
+    let p = bind_some (next_number words) (λ (p : ℕ × List (List ℕ)). some (made p.0, p.1)) d e in
+    subst (SaysDeed (key ∷ words)) (some_is (made p.0.0, p.0.1) d p.2) (subst (λ (ws : List (List ℕ)). SaysDeed (key ∷ ws) (made p.0.0, p.0.1)) (sym (next_number_is words p.0 p.1)) (says p.0.0 p.0.1))
+
+-- words that are read as what an entry of this kind did say it
+deed_takes : (k : Kind) (words : List (List ℕ)) (d : Deed × List (List ℕ)) → deed_of k words ≡ Some d → SaysDeed (kind_word k ∷ words) d
+unfolding deed_of kind_word
+deed_takes kind.Enter words d e = numbered (codes "enter") words Enter d (λ n rest. (refl, tt)) e
+deed_takes kind.Pause words d e = numbered (codes "pause") words Pause d (λ n rest. (refl, tt)) e
+deed_takes kind.Leave words d e = numbered (codes "leave") words Leave d (λ n rest. (refl, tt)) e
+deed_takes kind.Wave words d e = numbered (codes "wave") words Wave d (λ n rest. (refl, tt)) e
+deed_takes kind.Tick words d e = subst (SaysDeed (codes "tick" ∷ words)) (some_is (Tick, words) d e) (refl, tt)
+deed_takes kind.Act words d e =
+    let p = bind_some (next_number words) _ d e in
+    let g = bind_some (next_number p.0.1) _ d p.2 in
+    let a = bind_some (action_form g.0.1) (λ (a : Action × List (List ℕ)). some (Act p.0.0 g.0.0 a.0, a.1)) d g.2 in
+    let says = action_form_takes g.0.1 a.0 a.1 in
+    let are : words ≡ decimal p.0.0 ∷ decimal g.0.0 ∷ (action_words a.0.0 ++ a.0.1) = next_number_is words p.0 p.1 ∙ ap (λ (ws : List (List ℕ)). decimal p.0.0 ∷ ws) (next_number_is p.0.1 g.0 g.1 ∙ ap (λ (ws : List (List ℕ)). decimal g.0.0 ∷ ws) says.0) in
+    subst (SaysDeed (codes "act" ∷ words)) (some_is (Act p.0.0 g.0.0 a.0.0, a.0.1) d a.2) (ap (λ (ws : List (List ℕ)). codes "act" ∷ ws) are, says.1)
 
 -- ---- an entry
 
--- the same, of the kinds behind the first
-kind_takes_others : (word : List ℕ) (player : ℕ) (kind : Kind) → cond (bytes_eq word (codes "pause")) (Some Pause) (cond (bytes_eq word (codes "leave")) (Some Leave) None) ≡ Some kind → word ∷ decimal player ∷ [] ≡ what_words (what_made kind player)
-kind_takes_others word player kind e =
-    elim (cases_Bool (bytes_eq word (codes "pause"))) [
-      | inl pause ↦ subst (λ (kind : Kind). word ∷ decimal player ∷ [] ≡ what_words (what_made kind player)) (some_is Pause kind (rw pause at e)) (ap (λ (w : List ℕ). w ∷ decimal player ∷ []) (same_word word (codes "pause") pause))
-      | inr other ↦
-          let g = guard_some (bytes_eq word (codes "leave")) (Some Leave) kind (rw other at e) in
-          subst (λ (kind : Kind). word ∷ decimal player ∷ [] ≡ what_words (what_made kind player)) (some_is Leave kind g.1) (ap (λ (w : List ℕ). w ∷ decimal player ∷ []) (same_word word (codes "leave") g.0))
-    ]
-
--- the word of a kind, and a player, are what such an entry has written
-kind_takes : (word : List ℕ) (player : ℕ) (kind : Kind) → kind_of word ≡ Some kind → word ∷ decimal player ∷ [] ≡ what_words (what_made kind player)
-unfolding kind_of
-kind_takes word player kind e =
-    elim (cases_Bool (bytes_eq word (codes "enter"))) [
-      | inl enter ↦ subst (λ (kind : Kind). word ∷ decimal player ∷ [] ≡ what_words (what_made kind player)) (some_is Enter kind (rw enter at e)) (ap (λ (w : List ℕ). w ∷ decimal player ∷ []) (same_word word (codes "enter") enter))
-      | inr other ↦ kind_takes_others word player kind (rw other at e)
-    ]
-
--- what is read of an entry's last words was written so
-what_takes : (words : List (List ℕ)) (did : Kind × ℕ) → what_form words ≡ Some did → words ≡ what_words (what_made did.0 did.1)
-unfolding what_form
-what_takes words did e =
-    let w = bind_some (two words) _ did e in
-    let k = bind_some (kind_of w.0.0) _ did w.2 in
-    let n = bind_some (number_of w.0.1) (λ n. Some (k.0, n)) did k.2 in
-    subst (λ (did : Kind × ℕ). words ≡ what_words (what_made did.0 did.1)) (some_is (k.0, n.0) did n.2) (two_is words w.0 w.1 ∙ ap (λ (x : List ℕ). w.0.0 ∷ x ∷ []) (decimal_is w.0.1 n.0 n.1) ∙ kind_takes w.0.0 n.0 k.0 k.1)
-
--- the four values of an entry that were read
-entry_fields : (a b : Option ℕ) (d : Option (Kind × ℕ)) (e : ℕ × ℕ × Kind × ℕ) → option_and_then (λ s. option_and_then (λ p. option_and_then (λ (did : Kind × ℕ). Some (s, p, did.0, did.1)) d) b) a ≡ Some e → (a ≡ Some e.0) × (b ≡ Some e.1) × (d ≡ Some (e.2, e.3))
-entry_fields None b d e h = absurd cc
-entry_fields (Some s) None d e h = absurd cc
-entry_fields (Some s) (Some p) None e h = absurd cc
-entry_fields (Some s) (Some p) (Some did) e h = subst (λ (e : ℕ × ℕ × Kind × ℕ). (some s ≡ some e.0) × (some p ≡ some e.1) × (some did ≡ some (e.2, e.3))) (some_is (s, p, did.0, did.1) e h) (refl, refl, refl)
-
--- lines with the same parts are the same
-three_parts : (a b x y : List ℕ) (more others : List (List ℕ)) → a ≡ x → b ≡ y → more ≡ others → a ∷ b ∷ more ≡ x ∷ y ∷ others
-three_parts a b x y more others p q r = cc
+-- words that say an entry, and the words of its pairs
+pub record SaysEntry (version : ℕ) (words : List (List ℕ)) (e : Said × List (List ℕ)) : Type 0 where
+  pub words_are : words ≡ entry_words (entry_made e.0) ++ e.1
+  pub named : CanBeNamed e.0.deed
+  pub ends : ends_well version e.0.deed e.1 ≡ true
 
 -- a line with the form of an entry has just its words
-pub entry_form_is : (words : List (List ℕ)) (e : ℕ × ℕ × Kind × ℕ) → entry_form words ≡ Some e → words ≡ entry_words (entry_made e)
+pub entry_form_takes : (version : ℕ) (words : List (List ℕ)) (e : Said × List (List ℕ)) → entry_form version words ≡ Some e → SaysEntry version words e
 unfolding entry_form
-entry_form_is words e h =
-    let a = bind_some (first words) _ e h in
-    let b = bind_some (first a.0.1) _ e a.2 in
-    let f = entry_fields (number_of a.0.0) (number_of b.0.0) (what_form b.0.1) e b.2 in
-    let stamp : a.0.0 ≡ decimal e.0 = decimal_is a.0.0 e.0 f.0 in
-    let pass : b.0.0 ≡ decimal e.1 = decimal_is b.0.0 e.1 f.1 in
-    let did : b.0.1 ≡ what_words (what_made e.2 e.3) = what_takes b.0.1 (e.2, e.3) f.2 in
-    first_is words a.0 a.1 ∙ ap (λ (more : List (List ℕ)). a.0.0 ∷ more) (first_is a.0.1 b.0 b.1) ∙ three_parts a.0.0 b.0.0 (decimal e.0) (decimal e.1) b.0.1 (what_words (what_made e.2 e.3)) stamp pass did
+entry_form_takes version words e h =
+    let s = bind_some (next_number words) _ e h in
+    let p = bind_some (next_number s.0.1) _ e s.2 in
+    let w = bind_some (next_word p.0.1) _ e p.2 in
+    let k = bind_some (kind_of w.0.0) _ e w.2 in
+    let d = bind_some (deed_of k.0 w.0.1) _ e k.2 in
+    let g = guard_some (ends_well version d.0.0 d.0.1) (some (record { stamp = s.0.0; pass = p.0.0; deed = d.0.0 }, d.0.1)) e d.2 in
+    let says = deed_takes k.0 w.0.1 d.0 d.1 in
+    let did : p.0.1 ≡ what_words (what_made d.0.0) ++ d.0.1 = next_word_is p.0.1 w.0 w.1 ∙ ap (λ (x : List ℕ). x ∷ w.0.1) (kind_takes w.0.0 k.0 k.1) ∙ says.0 in
+    let are : words ≡ decimal s.0.0 ∷ decimal p.0.0 ∷ (what_words (what_made d.0.0) ++ d.0.1) = next_number_is words s.0 s.1 ∙ ap (λ (ws : List (List ℕ)). decimal s.0.0 ∷ ws) (next_number_is s.0.1 p.0 p.1 ∙ ap (λ (ws : List (List ℕ)). decimal p.0.0 ∷ ws) did) in
+    subst (SaysEntry version words) (some_is (record { stamp = s.0.0; pass = p.0.0; deed = d.0.0 }, d.0.1) e g.1) (record { words_are = are; named = says.1; ends = g.0 })
 
--- a player below their number is in range for each kind
-what_in_range : (players : ℕ) (kind : Kind) (player : ℕ) → player < players → IsWhatOf players (what_made kind player)
-what_in_range players Enter player below = below
-what_in_range players Pause player below = below
-what_in_range players Leave player below = below
+-- what an entry did is in range where the tests say so
+deed_in_range : (players : ℕ) (d : Deed) → CanBeNamed d → deed_fits players d ≡ true → IsWhatOf players (what_made d)
+deed_in_range players (Enter p) named fit = ltb-true p players fit
+deed_in_range players (Pause p) named fit = ltb-true p players fit
+deed_in_range players (Leave p) named fit = ltb-true p players fit
+deed_in_range players (Act p game a) named fit = let parts = and_parts (ltb p players) (ltb game 200000) fit in (ltb-true p players parts.0, ltb-true game 200000 parts.1, named)
+deed_in_range players Tick named fit = tt
+deed_in_range players (Wave n) named fit = leb-true n 8000000 fit
 
--- the kind is built
-guard_built : {B : Type 0} (b : Bool) (r : Result B JournalCause) (y : B) → cond b (Err NotBuilt) r ≡ Ok y → (b ≡ false) × (r ≡ Ok y)
-guard_built true r y e = absurd cc
-guard_built false r y e = (refl, e)
+-- an entry that a line says, with the words of its pairs
+pub record IsEntryIn (version players entries : ℕ) (words : List (List ℕ)) (e : Entry × List (List ℕ)) : Type 0 where
+  pub deed : Deed
+  pub did : e.0.what ≡ what_made deed
+  pub words_are : words ≡ entry_words e.0 ++ e.1
+  pub ends : ends_well version deed e.1 ≡ true
+  pub range : IsEntryOf players e.0
+  pub few : length e.1 ≤ 500
+  pub pairs : list_all (λ w. is_some (pair_in players w)) e.1 ≡ true
+  pub room : entries < 8000000
 
 -- the entry that a line says has these words and is in range, and there was room for it
-pub entry_takes : (players entries : ℕ) (words : List (List ℕ)) (e : Entry) → entry_in players entries words ≡ Ok e → (words ≡ entry_words e) × IsEntryOf players e × (entries < 8000000)
+pub entry_takes : (version players entries : ℕ) (words : List (List ℕ)) (e : Entry × List (List ℕ)) → entry_in version players entries words ≡ Ok e → IsEntryIn version players entries words e
 unfolding entry_in
-entry_takes players entries words e h =
-    let b = guard_built (is_unbuilt words) (formed (entry_form words) (λ e. ranged (entry_fits players e && ltb entries 8000000) (line_ok (entry_made e)))) e h in
-    let j = judged_ok (entry_form words) (λ e. entry_fits players e && ltb entries 8000000) entry_made e b.1 in
-    let room = and_parts (entry_fits players j.0) (ltb entries 8000000) j.2 in
-    let fit = and_parts (leb j.0.0 1000000000 && leb j.0.1 255) (ltb j.0.3 players) room.0 in
-    let low = and_parts (leb j.0.0 1000000000) (leb j.0.1 255) fit.0 in
-    subst (λ (e : Entry). (words ≡ entry_words e) × IsEntryOf players e × (entries < 8000000)) j.3 (entry_form_is words j.0 j.1, record { stamp_most = leb-true j.0.0 1000000000 low.0; pass_most = leb-true j.0.1 255 low.1; what = what_in_range players j.0.2 j.0.3 (ltb-true j.0.3 players fit.1) }, ltb-true entries 8000000 room.1)
-
--- what an entry did is read again
-kind_again : (did : What) (players : ℕ) → players ≤ 1000 → IsWhatOf players did → (kind : Kind) × (player : ℕ) × (what_form (what_words did) ≡ Some (kind, player)) × (what_made kind player ≡ did) × (player < players)
-unfolding what_form kind_of
-kind_again (what.Enter player) players most h = (Enter, player, rw (number_of-decimal player (omega (arith, h))) refl, refl, h)
-kind_again (what.Pause player) players most h = (Pause, player, rw (number_of-decimal player (omega (arith, h))) refl, refl, h)
-kind_again (what.Leave player) players most h = (Leave, player, rw (number_of-decimal player (omega (arith, h))) refl, refl, h)
-
--- something stands behind the first words of an entry
-first_what : (word : List ℕ) (did : What) → first (word ∷ what_words did) ≡ Some (word, what_words did)
-first_what word (what.Enter player) = refl
-first_what word (what.Pause player) = refl
-first_what word (what.Leave player) = refl
-
--- no entry that is written has a kind that is not built
-what_built : (stamp pass : List ℕ) (did : What) → is_unbuilt (stamp ∷ pass ∷ what_words did) ≡ false
-unfolding is_unbuilt
-what_built stamp pass (what.Enter player) = and_right (is_some (number_of stamp) && is_some (number_of pass)) (begins_unbuilt (codes "enter")) refl
-what_built stamp pass (what.Pause player) = and_right (is_some (number_of stamp) && is_some (number_of pass)) (begins_unbuilt (codes "pause")) refl
-what_built stamp pass (what.Leave player) = and_right (is_some (number_of stamp) && is_some (number_of pass)) (begins_unbuilt (codes "leave")) refl
-
--- an entry, at a type that shows
-abbrev entry_with : ℕ → ℕ → What → Entry
-entry_with stamp pass what = record { stamp = stamp; pass = pass; what = what }
-
--- the words of an entry in range have its form
-pub entry_form_again : (players : ℕ) (e : Entry) → players ≤ 1000 → IsEntryOf players e → (values : ℕ × ℕ × Kind × ℕ) × (entry_form (entry_words e) ≡ Some values) × (entry_fits players values ≡ true) × (entry_made values ≡ e)
-unfolding entry_form
-entry_form_again players e most h =
-    let did = kind_again e.what players most h.what in
-    let values : ℕ × ℕ × Kind × ℕ = (e.stamp, e.pass, did.0, did.1) in
-    let formed : entry_form (entry_words e) ≡ Some values = rw (first_what (decimal e.pass) e.what, number_of-decimal e.stamp (omega (arith, h.stamp_most)), number_of-decimal e.pass (omega (arith, h.pass_most)), did.2) refl in
-    let fit : entry_fits players values ≡ true = and_from (leb e.stamp 1000000000 && leb e.pass 255) (ltb did.1 players) (and_from (leb e.stamp 1000000000) (leb e.pass 255) (le-leb e.stamp 1000000000 h.stamp_most) (le-leb e.pass 255 h.pass_most)) (lt-ltb did.1 players did.4) in
-    (values, formed, fit, ap (λ (what : What). entry_with e.stamp e.pass what) did.3)
-
--- the words of an entry in range say this entry, where there is room for it
-pub entry_again : (players entries : ℕ) (e : Entry) → players ≤ 1000 → entries < 8000000 → IsEntryOf players e → entry_in players entries (entry_words e) ≡ Ok e
-unfolding entry_in
-entry_again players entries e most room h =
-    let f = entry_form_again players e most h in
-    rw (what_built (decimal e.stamp) (decimal e.pass) e.what, f.1, f.2, lt-ltb entries 8000000 room) (ap line_ok f.3)
-
--- ---- the words of these lines
-
--- what an entry did is made of words
-what_is_words : (players : ℕ) (did : What) → players ≤ 1000 → IsWhatOf players did → AllByRecursion IsWord (what_words did)
-what_is_words players (what.Enter player) most h = number_is_words (codes "enter") player (tested_word (codes "enter") refl) (omega (arith, h))
-what_is_words players (what.Pause player) most h = number_is_words (codes "pause") player (tested_word (codes "pause") refl) (omega (arith, h))
-what_is_words players (what.Leave player) most h = number_is_words (codes "leave") player (tested_word (codes "leave") refl) (omega (arith, h))
-
--- an entry is made of words
-pub entry_is_words : (players : ℕ) (e : Entry) → players ≤ 1000 → IsEntryOf players e → AllByRecursion IsWord (entry_words e)
-entry_is_words players e most h = (IsWord-decimal e.stamp (omega (arith, h.stamp_most)), (IsWord-decimal e.pass (omega (arith, h.pass_most)), what_is_words players e.what most h.what))
-
--- `end` is a word
-pub end_is_words : AllByRecursion IsWord (codes "end" ∷ [])
-end_is_words = (tested_word (codes "end") refl, tt)
+entry_takes version players entries words e h =
+    let j = judged_ok (entry_form version words) (entry_fits players entries) (λ (s : Said × List (List ℕ)). (entry_made s.0, s.1)) e h in
+    let says = entry_form_takes version words j.0 j.1 in
+    let a = and_parts _ (ltb entries 8000000) j.2 in
+    let b = and_parts _ (pairs_fit players j.0.1) a.0 in
+    let c = and_parts _ (deed_fits players j.0.0.deed) b.0 in
+    let d = and_parts (leb j.0.0.stamp 1000000000) (leb j.0.0.pass 255) c.0 in
+    let p = and_parts (leb (length j.0.1) 500) _ b.1 in
+    subst (IsEntryIn version players entries words) j.3 (record {
+      deed = j.0.0.deed;
+      did = refl;
+      words_are = says.words_are;
+      ends = says.ends;
+      range = record { stamp_most = leb-true j.0.0.stamp 1000000000 d.0; pass_most = leb-true j.0.0.pass 255 d.1; what = deed_in_range players j.0.0.deed says.named c.1 };
+      few = leb-true (length j.0.1) 500 p.0;
+      pairs = p.1;
+      room = ltb-true entries 8000000 a.1;
+    })
 
 -- ---- what was written is read again
 
--- no line of an entry is `end`
-not_end : (n : ℕ) (more : List ℕ) → n < 10 ^ 10 → bytes_eq (decimal n ++ more) (codes "end") ≡ false
-not_end n more small =
-    let front = decimal_front n small in
-    let other : eqb front.0 101 ≡ false = ne_eqb front.0 101 (λ same. omega (arith, front.4)) in
-    rw (front.2, other) refl
+-- what a line says of what an entry did
+abbrev pub deed_from : What → Deed
+deed_from (what.Enter p) = Enter p
+deed_from (what.Pause p) = Pause p
+deed_from (what.Leave p) = Leave p
+deed_from (what.Act p game a) = Act p game a
+deed_from what.Tick = Tick
+deed_from (what.Wave n) = Wave n
 
--- what reading answers for these entries
-abbrev entries_read : List Entry → List (List ℕ) → Result (List Entry × List (List ℕ)) JournalFault
-entries_read entries lines = Ok (entries, lines)
+-- it is made of it again
+what_again : (did : What) → what_made (deed_from did) ≡ did
+what_again (what.Enter p) = refl
+what_again (what.Pause p) = refl
+what_again (what.Leave p) = refl
+what_again (what.Act p game a) = refl
+what_again what.Tick = refl
+what_again (what.Wave n) = refl
 
--- entries that were written are read again, behind those that were read before
-pub entries_again : (teams players : ℕ) (es sofar : List Entry) (rest : List ℕ) → players ≤ 1000 → length (sofar ++ es) ≤ 8000000 → AllByRecursion (IsEntryOf players) es
-    → entries_in teams players sofar (lines_of (flat_map entry_line es ++ (line (codes "end" ∷ []) ++ rest))) ≡ Ok (sofar ++ es, lines_of rest)
-unfolding entry_line
-entries_again teams players [] sofar rest few most each =
-    entries_step teams players sofar (lines_of (line (codes "end" ∷ []) ++ rest))
-    ∙ rw (next-line (entry_place teams players sofar) (codes "end" ∷ []) rest end_is_words, append-nil sofar) refl
-entries_again teams players (e ∷ es) sofar rest few most each =
-    let tail = flat_map entry_line es ++ (line (codes "end" ∷ []) ++ rest) in
-    let words = entry_is_words players e few each.0 in
-    let room : length sofar < 8000000 = omega (arith, most, length-append sofar (e ∷ es)) in
-    let same = append_assoc sofar (e ∷ []) es in
-    let stepped : entries_in teams players sofar (lines_of (entry_line e ++ tail)) ≡ entries_in teams players (sofar ++ e ∷ []) (lines_of tail) =
-    entries_step teams players sofar (lines_of (entry_line e ++ tail))
-    ∙ rw (
-      next-line (entry_place teams players sofar) (entry_words e) tail words,
-      not_end e.stamp _ (omega (arith, each.0.stamp_most)),
-      words_of-spaced (decimal e.stamp) _ words,
-      entry_again players (length sofar) e few room each.0,
-    ) refl in
-    ap (λ (text : List ℕ). entries_in teams players sofar (lines_of text)) (append_assoc (entry_line e) (flat_map entry_line es) (line (codes "end" ∷ []) ++ rest))
-    ∙ stepped
-    ∙ entries_again teams players es (sofar ++ e ∷ []) rest few (subst (λ (xs : List Entry). length xs ≤ 8000000) (sym same) most) each.1
-    ∙ ap (λ (xs : List Entry). entries_read xs (lines_of rest)) same
+-- an action that was written is read again
+action_again : (a : Action) (rest : List (List ℕ)) → IsAction a → action_form (action_words a ++ rest) ≡ Some (a, rest)
+unfolding action_form action_of
+action_again (action.Move m) rest h = rw (move_in-word m h) refl
+action_again action.Resign rest h = refl
+action_again action.Offer rest h = refl
+action_again action.Accept rest h = refl
+action_again action.Decline rest h = refl
+action_again action.Claim rest h = refl
+action_again action.Berserk rest h = refl
 
--- ---- what is read was written so
+-- the kind of what an entry did, and the words behind that of the kind
+abbrev kind_from : What → Kind
+kind_from (what.Enter p) = kind.Enter
+kind_from (what.Pause p) = kind.Pause
+kind_from (what.Leave p) = kind.Leave
+kind_from (what.Act p game a) = kind.Act
+kind_from what.Tick = kind.Tick
+kind_from (what.Wave n) = kind.Wave
 
--- entries as a journal of so many players may have them
-pub record AreEntries (players : ℕ) (entries : List Entry) : Type 0 where
-  pub most : length entries ≤ 8000000
-  pub good : All (IsEntryOf players) entries
+-- what an entry did is read again
+deed_again : {A : Type 0} (did : What) (players : ℕ) (rest : List (List ℕ)) (further : Deed × List (List ℕ) → Option A) → players ≤ 1000 → IsWhatOf players did → option_and_then (λ (w : List ℕ × List (List ℕ)). option_and_then (λ k. option_and_then further (deed_of k w.1)) (kind_of w.0)) (next_word (what_words did ++ rest)) ≡ further (deed_from did, rest)
+unfolding kind_of deed_of
+deed_again (what.Enter p) players rest further most h = rw (number_of-decimal p (omega (arith, h))) refl
+deed_again (what.Pause p) players rest further most h = rw (number_of-decimal p (omega (arith, h))) refl
+deed_again (what.Leave p) players rest further most h = rw (number_of-decimal p (omega (arith, h))) refl
+deed_again (what.Act p game a) players rest further most h = rw (number_of-decimal p (omega (arith, h.0)), number_of-decimal game (omega (arith, h.1)), action_again a rest h.2) refl
+deed_again what.Tick players rest further most h = refl
+deed_again (what.Wave n) players rest further most h = rw (number_of-decimal n (omega (arith, h))) refl
 
--- no entries are as they may be
-pub no_entries : (players : ℕ) → AreEntries players []
-no_entries players = record { most = omega arith; good = All-nil (IsEntryOf players) }
+-- what a line says of an entry
+abbrev said_from : Entry → Said
+said_from e = record { stamp = e.stamp; pass = e.pass; deed = deed_from e.what }
 
--- these entries were read behind those that were read before, and they have this text
-pub record TakesEntries (text : List ℕ) (players : ℕ) (sofar : List Entry) (r : List Entry × List (List ℕ)) : Type 0 where
-  pub new : List Entry
-  pub all : r.0 ≡ sofar ++ new
-  pub spelled : text ≡ flat_map entry_line new ++ (line (codes "end" ∷ []) ++ joined r.1)
-  pub good : AreEntries players r.0
+-- an entry with this stamp and pass
+abbrev entry_with : ℕ → ℕ → What → Entry
+entry_with stamp pass what = record { stamp = stamp; pass = pass; what = what }
 
--- at `end` no entry is new
-entries_ended : (bytes : List ℕ) (behind : List (List ℕ)) (players : ℕ) (sofar : List Entry) → AreEntries players sofar → bytes ≡ codes "end" → TakesEntries (bytes ++ (10 ∷ joined behind)) players sofar (sofar, behind)
-entries_ended bytes behind players sofar h same = record {
-  new = [];
-  all = sym (append-nil sofar);
-  spelled = ap (λ (b : List ℕ). b ++ (10 ∷ joined behind)) same;
-  good = h;
-}
+-- what is in range passes the tests
+deed_fits_again : (players : ℕ) (did : What) → IsWhatOf players did → deed_fits players (deed_from did) ≡ true
+deed_fits_again players (what.Enter p) h = lt-ltb p players h
+deed_fits_again players (what.Pause p) h = lt-ltb p players h
+deed_fits_again players (what.Leave p) h = lt-ltb p players h
+deed_fits_again players (what.Act p game a) h = and_from _ _ (lt-ltb p players h.0) (lt-ltb game 200000 h.1)
+deed_fits_again players what.Tick h = refl
+deed_fits_again players (what.Wave n) h = le-leb n 8000000 h
 
--- behind an entry come those that are read behind it
-entries_more : (bytes : List ℕ) (behind : List (List ℕ)) (players : ℕ) (sofar : List Entry) (e : Entry) (r : List Entry × List (List ℕ)) → bytes ≡ spaced (entry_words e) → TakesEntries (joined behind) players (sofar ++ e ∷ []) r → TakesEntries (bytes ++ (10 ∷ joined behind)) players sofar r
-unfolding entry_line
-entries_more bytes behind players sofar e r same rest = record {
-  new = e ∷ rest.new;
-  all = rest.all ∙ append_assoc sofar (e ∷ []) rest.new;
-  spelled = ap (λ (b : List ℕ). b ++ (10 ∷ joined behind)) same ∙ sym (append_assoc (spaced (entry_words e)) (10 ∷ []) (joined behind)) ∙ ap (λ (text : List ℕ). line (entry_words e) ++ text) rest.spelled ∙ sym (append_assoc (line (entry_words e)) (flat_map entry_line rest.new) (line (codes "end" ∷ []) ++ joined r.1));
-  good = rest.good;
-}
-
--- an entry in range is one more where there is room
-one_more_entry : (players : ℕ) (entries : List Entry) (e : Entry) → AreEntries players entries → IsEntryOf players e → length entries < 8000000 → AreEntries players (entries ++ e ∷ [])
-one_more_entry players entries e h good room = record { most = omega (arith, room, length_push entries e); good = All-push (IsEntryOf players) entries e h.good good }
-
--- entries that are read were written so
-pub entries_take : (teams players : ℕ) (lines : List (List ℕ)) (sofar : List Entry) (r : List Entry × List (List ℕ)) → AreEntries players sofar → entries_in teams players sofar lines ≡ Ok r → TakesEntries (joined lines) players sofar r
-unfolding entries_in
-entries_take teams players [] sofar r h e = absurd cc
-entries_take teams players (rest ∷ []) sofar r h e = absurd cc
-entries_take teams players (bytes ∷ after ∷ more) sofar r h e =
-    elim (cases_Bool (bytes_eq bytes (codes "end"))) [
-      | inl end ↦
-          subst (TakesEntries (joined (bytes ∷ after ∷ more)) players sofar) (text_ok_is (sofar, after ∷ more) r (rw end at e)) (entries_ended bytes (after ∷ more) players sofar h ((bytes_eq-Decides bytes (codes "end")).0 end))
-      | inr other ↦
-          let x = bind_ok (at_line (entry_place teams players sofar) (entry_in players (length sofar) (words_of bytes))) (λ x. entries_in teams players (sofar ++ x ∷ []) (after ∷ more)) r (rw other at e) in
-          let said = entry_takes players (length sofar) (words_of bytes) x.0 (at_line_ok (entry_place teams players sofar) (entry_in players (length sofar) (words_of bytes)) x.0 x.1) in
-          entries_more bytes (after ∷ more) players sofar x.0 r (spelled_words bytes (entry_words x.0) said.0) (entries_take teams players (after ∷ more) (sofar ++ x.0 ∷ []) r (one_more_entry players sofar x.0 h said.1 said.2) x.2)
-    ]
+-- the words of an entry in range, and of games that it may list, say this entry
+pub entry_again : (version players entries : ℕ) (e : Entry) (games : List Start) → players ≤ 1000 → entries < 8000000 → IsEntryOf players e → AreGames players entries games → length games ≤ 500 → ends_well version (deed_from e.what) (map pair_word games) ≡ true
+    → entry_in version players entries (entry_words e ++ map pair_word games) ≡ Ok (e, map pair_word games)
+unfolding entry_in entry_form
+entry_again version players entries e games most room h good few ends =
+    let rest = map pair_word games in
+    let formed : entry_form version (entry_words e ++ rest) ≡ Some (said_from e, rest) = rw (number_of-decimal e.stamp (omega (arith, h.stamp_most)), number_of-decimal e.pass (omega (arith, h.pass_most)), deed_again {A = Said × List (List ℕ)} e.what players rest (λ (d : Deed × List (List ℕ)). cond (ends_well version d.0 d.1) (some (record { stamp = e.stamp; pass = e.pass; deed = d.0 }, d.1)) None) most h.what, ends) refl in
+    let fit : entry_fits players entries (said_from e, rest) ≡ true =
+    and_from _ _ (and_from _ _ (and_from _ _ (and_from _ _ (le-leb e.stamp 1000000000 h.stamp_most) (le-leb e.pass 255 h.pass_most)) (deed_fits_again players e.what h.what)) (and_from _ _ (le-leb (length rest) 500 (omega (arith, few, length-map games pair_word))) (pairs_fit_again players entries games most good))) (lt-ltb entries 8000000 room) in
+    judged_again (entry_form version (entry_words e ++ rest)) (entry_fits players entries) (λ (s : Said × List (List ℕ)). (entry_made s.0, s.1)) (said_from e, rest) formed fit
+    ∙ ap (λ (did : What). Ok (entry_with e.stamp e.pass did, rest)) (what_again e.what)

@@ -70,16 +70,8 @@ enrolled_ok most names name x y e =
 pub enrolled_again : {B : Type 0} (most : ℕ) (names : List (List ℕ)) (name : List ℕ) (x : B) → length names < most → is_taken names name ≡ false → enrolled most names name x ≡ Ok x
 enrolled_again most names name x room free = rw (lt-ltb (length names) most room, free) refl
 
--- what a text says, at a type that shows
-abbrev pub text_ok : {A : Type 0} → A → Result A JournalFault
-text_ok x = Ok x
-
--- one answer of a text has one value
-pub text_ok_is : {A : Type 0} (x y : A) → text_ok x ≡ text_ok y → x ≡ y
-text_ok_is x y e = cc
-
 -- the first step gave a value, and the rest what came of it
-pub bind_ok : {A B : Type 0} (r : Result A JournalFault) (f : A → Result B JournalFault) (y : B) → (r >>= f) ≡ Ok y → (x : A) × (r ≡ Ok x) × (f x ≡ Ok y)
+pub bind_ok : {A B E : Type 0} (r : Result A E) (f : A → Result B E) (y : B) → (r >>= f) ≡ Ok y → (x : A) × (r ≡ Ok x) × (f x ≡ Ok y)
 bind_ok (Ok x) f y e = (x, refl, e)
 bind_ok (Err fault) f y e = absurd cc
 
@@ -87,13 +79,3 @@ bind_ok (Err fault) f y e = absurd cc
 pub at_line_ok : {A : Type 0} (line : ℕ) (r : Result A JournalCause) (x : A) → at_line line r ≡ Ok x → r ≡ Ok x
 at_line_ok line (Ok y) x e = cc
 at_line_ok line (Err cause) x e = absurd cc
-
--- the test held
-pub guard_ok : {A : Type 0} (b : Bool) (r : Result A JournalFault) (fault : JournalFault) (y : A) → cond b r (Err fault) ≡ Ok y → (b ≡ true) × (r ≡ Ok y)
-guard_ok true r fault y e = (refl, e)
-guard_ok false r fault y e = absurd cc
-
--- the test failed
-pub guard_not : {A : Type 0} (b : Bool) (r : Result A JournalFault) (fault : JournalFault) (y : A) → cond b (Err fault) r ≡ Ok y → (b ≡ false) × (r ≡ Ok y)
-guard_not true r fault y e = absurd cc
-guard_not false r fault y e = (refl, e)

@@ -1,151 +1,222 @@
--- The first fault is of the first line that cannot stand.
-use Rattle.std.proofs.Common.{◌≡◌, ℕ, ◌+◌, eqb, List, [], ◌∷◌, ◌++◌, length, Option, Some, None, ◌⊎◌, inl, inr, refl, sym, ap, subst, ◌∙◌, arith, append_assoc, append-nil}
-use Rattle.std.specs.Prelude.{MatchOption}
-use Rattle.std.specs.List.{onto_first}
-use Rattle.std.proofs.lemmas.Bool.{cases_Bool}
-use Rattle.std.proofs.lemmas.List.{length-append}
-use Rattle.std.proofs.lemmas.List.Splits.{slice_split-cons_yes, slice_split-cons_no}
+-- The first fault is of the first line that cannot stand: whatever lines were taken, some lines behind them make a journal.
+use Rattle.std.proofs.Common.{◌≡◌, ℕ, ◌+◌, List, [], ◌∷◌, ◌++◌, length, map, Option, Some, None, Result, Ok, Err, inl, inr, refl, sym, ap, subst, ◌∙◌, arith, append_assoc}
+use Rattle.std.specs.Prelude.{codes}
+use Rattle.std.proofs.lemmas.Bool.{ne_eqb}
+use Rattle.std.proofs.lemmas.List.{map-append}
+use Rattle.std.proofs.lemmas.List.Splits.{join_with_byte-slice_split}
+use Rattle.decimals.specs.Decimals.{number_of}
+use Rattle.entries.specs.declared.setup.Player.{Player}
 use Rattle.entries.specs.declared.journal.Journal.{Journal}
 use Rattle.journal_text.specs.declared.fault.JournalCause.{JournalCause}
+use Rattle.journal_text.specs.declared.fault.JournalCause.TheVariants.{After}
 use Rattle.journal_text.specs.declared.fault.JournalFault.{JournalFault}
-use Rattle.journal_text.specs.Lines.{lines_of}
-use Rattle.journal_text.specs.Text.{text_of, Spells}
-use Rattle.journal_text.specs.Faults.{cause_of, last_cause, fault_behind, first_of, first_fault, fault_of}
+use Rattle.journal_text.specs.declared.head.Place.TheVariants as place
+use Rattle.journal_text.specs.declared.head.Head.{Head}
+use Rattle.journal_text.specs.Lines.{spaced, lines_of, words_of}
+use Rattle.journal_text.specs.Text.{journal_lines, text_of}
 use Rattle.journal_text.specs.Beginnings.{MayStand, IsFirst}
+use Rattle.journal_text.specs.Forms.{number_form, number_in, version_form, version_in, control_form, control_in, window_form, window_in, team_form, membership_form, player_form, player_in}
+use Rattle.journal_text.specs.EntryForms.{Recorded, no_entries}
+use Rattle.journal_text.specs.Reading.{Sofar, InHead, InNames, InEntries, Behind, nothing, head_in, fault_at, journal_in, fault_in, fault_of, journal_made, last, run, step}
 use Rattle.journal_text.proofs.LineLemmas.{parts_of-first}
-use Rattle.journal_text.proofs.FaultLemmas.{goes_on, ends_at}
-use Rattle.journal_text.proofs.Completions.{finish}
-use Rattle.journal_text.proofs.TextLemmas.{spelled_or_fault}
+use Rattle.journal_text.proofs.Standing.{said, IsSaid}
+use Rattle.journal_text.proofs.Runs.{steps, steps_cons, steps_append, steps_take, run_goes_on, run_ends, run_passes}
+use Rattle.journal_text.proofs.Again.{begin_again}
+use Rattle.journal_text.proofs.Whole.{text_parts, journal_again}
+use Rattle.journal_text.proofs.TextLemmas.{cases_Result, not_both}
 
--- where the first fault was found: behind lines that the search passes, at a line that has a cause
-record Found (before lines : List (List ℕ)) (fault : JournalFault) : Type 0 where
+-- ---- some lines behind those that were taken
+
+-- lines that make a journal of what stands
+record Finish (s : Sofar) : Type 0 where
+  lines : List (List (List ℕ))
+  journal : Journal
+  made : steps s lines ≡ Ok (Behind journal)
+
+-- one line before them
+line_before : (s further : Sofar) (words : List (List ℕ)) → step s words ≡ Ok further → Finish further → Finish s
+line_before s further words e f = record { lines = words ∷ f.lines; journal = f.journal; made = steps_cons s further words f.lines e ∙ f.made }
+
+-- behind entries `end` is enough
+finish_entries : (h : Head) (teams : List (List ℕ)) (players : List Player) (r : Recorded) → Finish (InEntries h teams players r)
+unfolding steps step
+finish_entries h teams players r = record { lines = (codes "end" ∷ []) ∷ []; journal = journal_made h teams players r; made = refl }
+
+-- a player whose line may stand first
+some_player : Player
+some_player = record { name = codes "a"; rating = 400; team = None }
+
+-- it may stand before all others
+first_player : (h : Head) (teams : List (List ℕ)) → step (InNames h teams []) (codes "player" ∷ codes "400" ∷ codes "-" ∷ codes "a" ∷ []) ≡ Ok (InNames h teams (some_player ∷ []))
+unfolding step team_form player_in player_form number_of membership_form some_player
+first_player h teams = refl
+
+-- behind names a player, if there is none yet, and `begin`
+finish_names : (h : Head) (teams : List (List ℕ)) (players : List Player) → Finish (InNames h teams players)
+finish_names h teams [] = line_before (InNames h teams []) (InNames h teams (some_player ∷ [])) (codes "player" ∷ codes "400" ∷ codes "-" ∷ codes "a" ∷ []) (first_player h teams) (line_before (InNames h teams (some_player ∷ [])) (InEntries h teams (some_player ∷ []) no_entries) (codes "begin" ∷ []) (begin_again h teams (some_player ∷ []) (omega arith)) (finish_entries h teams (some_player ∷ []) no_entries))
+finish_names h teams (p ∷ players) = line_before (InNames h teams (p ∷ players)) (InEntries h teams (p ∷ players) no_entries) (codes "begin" ∷ []) (begin_again h teams (p ∷ players) (omega arith)) (finish_entries h teams (p ∷ players) no_entries)
+
+-- the lines of the head that are missing
+finish_leaders : (h : Head) → Finish (InHead place.Leaders h)
+unfolding step head_in number_in number_form number_of
+finish_leaders h = line_before (InHead place.Leaders h) (InNames (record h { leaders = 1 }) [] []) (codes "leaders" ∷ codes "1" ∷ []) refl (finish_names (record h { leaders = 1 }) [] [])
+
+finish_wave : (h : Head) → Finish (InHead place.Wave h)
+unfolding step head_in number_in number_form number_of
+finish_wave h = line_before (InHead place.Wave h) (InHead place.Leaders (record h { wave_ms = 100 })) (codes "wave" ∷ codes "100" ∷ []) refl (finish_leaders (record h { wave_ms = 100 }))
+
+finish_window : (h : Head) → Finish (InHead place.Window h)
+unfolding step head_in window_in window_form number_of
+finish_window h = line_before (InHead place.Window h) (InHead place.Wave (record h { starts = 0; ends = 1 })) (codes "window" ∷ codes "0" ∷ codes "1" ∷ []) refl (finish_wave (record h { starts = 0; ends = 1 }))
+
+finish_control : (h : Head) → Finish (InHead place.Control h)
+unfolding step head_in control_in control_form number_of
+finish_control h = line_before (InHead place.Control h) (InHead place.Window (record h { control = record { initial_ms = 0; inc_ms = 1000; first_ms = 1000 } })) (codes "control" ∷ codes "0" ∷ codes "1" ∷ codes "1000" ∷ []) refl (finish_window (record h { control = record { initial_ms = 0; inc_ms = 1000; first_ms = 1000 } }))
+
+finish_rule : (h : Head) → Finish (InHead place.Rule h)
+unfolding step head_in number_in number_form number_of
+finish_rule h = line_before (InHead place.Rule h) (InHead place.Control (record h { rule = 1 })) (codes "rule" ∷ codes "1" ∷ []) refl (finish_control (record h { rule = 1 }))
+
+finish_version : (h : Head) → Finish (InHead place.Version h)
+unfolding step head_in version_in version_form number_form number_of
+finish_version h = line_before (InHead place.Version h) (InHead place.Control (record h { version = 1 })) (codes "arena" ∷ codes "1" ∷ []) refl (finish_control (record h { version = 1 }))
+
+-- behind whatever stands some lines make a journal
+finish : (s : Sofar) → Finish s
+unfolding steps
+finish (InHead place.Version h) = finish_version h
+finish (InHead place.Rule h) = finish_rule h
+finish (InHead place.Control h) = finish_control h
+finish (InHead place.Window h) = finish_window h
+finish (InHead place.Wave h) = finish_wave h
+finish (InHead place.Leaders h) = finish_leaders h
+finish (InNames h teams players) = finish_names h teams players
+finish (InEntries h teams players r) = finish_entries h teams players r
+finish (Behind j) = record { lines = []; journal = j; made = refl }
+
+-- ---- where the first fault is
+
+-- behind lines that were taken, at a line that cannot be, if it is a whole line
+record Found (s : Sofar) (n : ℕ) (parts : List (List ℕ)) (fault : JournalFault) : Type 0 where
   passed : List (List ℕ)
   line : List ℕ
   more : List (List ℕ)
-  are : lines ≡ passed ++ line ∷ more
-  place : fault.line ≡ length before + length passed + 1
-  passes : (next : List ℕ) (others : List (List ℕ)) → first_fault before (passed ++ next ∷ others) ≡ first_fault (before ++ passed) (next ∷ others)
-  bad : (next : List ℕ) (others : List (List ℕ)) → more ≡ next ∷ others → (cause : JournalCause) × (cause_of (before ++ passed) line ≡ Some cause)
+  are : parts ≡ passed ++ line ∷ more
+  reached : Sofar
+  taken : steps s (map words_of passed) ≡ Ok reached
+  place : fault.line ≡ n + length passed
+  bad : (next : List ℕ) (others : List (List ℕ)) → more ≡ next ∷ others → (cause : JournalCause) × (step reached (words_of line) ≡ Err cause)
 
--- a fault that was chosen
-chosen : (before : List (List ℕ)) (o : Option JournalCause) (fault : JournalFault) → first_of before o None ≡ Some fault → fault.line ≡ length before + 1
-chosen before None fault e = absurd cc
-chosen before (Some cause) fault e = let is : fault_behind before cause ≡ fault = cc in sym (ap (λ (f : JournalFault). f.line) is)
+-- one fault is one fault
+fault_is : (a b : JournalFault) (r : Result Journal JournalFault) → r ≡ Err a → r ≡ Err b → a ≡ b
+fault_is a b r p q = cc
 
--- it is of the line behind those before, where that has a cause
-found_here : (before : List (List ℕ)) (line : List ℕ) (more : List (List ℕ)) (fault : JournalFault) → fault.line ≡ length before + 1 → ((next : List ℕ) (others : List (List ℕ)) → more ≡ next ∷ others → (cause : JournalCause) × (cause_of before line ≡ Some cause)) → Found before (line ∷ more) fault
-found_here before line more fault place bad =
-    let same : before ++ [] ≡ before = append-nil before in
-    record {
-      passed = [];
-      line = line;
-      more = more;
-      are = refl;
-      place = omega (arith, place);
-      passes = λ next others. ap (λ (b : List (List ℕ)). first_fault b (next ∷ others)) (sym same);
-      bad = λ next others is. subst (λ (b : List (List ℕ)). (cause : JournalCause) × (cause_of b line ≡ Some cause)) (sym same) (bad next others is);
-    }
+-- what stands behind the last line feed is at fault at its own line
+last_place : (s : Sofar) (n : ℕ) (rest : List ℕ) (fault : JournalFault) → last s n rest ≡ Err fault → fault.line ≡ n
+last_place (InHead p h) n rest fault e = ap (λ (f : JournalFault). f.line) (fault_is fault _ (last (InHead p h) n rest) e refl)
+last_place (InNames h teams players) n rest fault e = ap (λ (f : JournalFault). f.line) (fault_is fault _ (last (InNames h teams players) n rest) e refl)
+last_place (InEntries h teams players r) n rest fault e = ap (λ (f : JournalFault). f.line) (fault_is fault _ (last (InEntries h teams players r) n rest) e refl)
+last_place (Behind j) n [] fault e = absurd cc
+last_place (Behind j) n (byte ∷ rest) fault e = ap (λ (f : JournalFault). f.line) (fault_is fault _ (last (Behind j) n (byte ∷ rest)) e (behind_more j n byte rest))
+  where
+    behind_more : (j : Journal) (n byte : ℕ) (rest : List ℕ) → last (Behind j) n (byte ∷ rest) ≡ Err (fault_at n After)
+    behind_more j n byte rest = rw (ne_eqb (length (byte ∷ rest)) 0 (λ zero. omega arith)) refl
 
--- a line that stands is passed
-passes_more : (before : List (List ℕ)) (line : List ℕ) (passed : List (List ℕ)) (next : List ℕ) (others : List (List ℕ)) → cause_of before line ≡ None → first_fault before ((line ∷ passed) ++ next ∷ others) ≡ first_fault (before ++ line ∷ []) (passed ++ next ∷ others)
-passes_more before line [] next others e = goes_on before line next others e
-passes_more before line (p ∷ passed) next others e = goes_on before line p (passed ++ next ∷ others) e
-
--- behind a line that stands it is found further on
-found_further : (before : List (List ℕ)) (line : List ℕ) (lines : List (List ℕ)) (fault : JournalFault) → cause_of before line ≡ None → Found (before ++ line ∷ []) lines fault → Found before (line ∷ lines) fault
-found_further before line lines fault e h =
-    let same : (before ++ line ∷ []) ++ h.passed ≡ before ++ line ∷ h.passed = append_assoc before (line ∷ []) h.passed in
-    record {
-      passed = line ∷ h.passed;
-      line = h.line;
-      more = h.more;
-      are = ap (λ (ls : List (List ℕ)). line ∷ ls) h.are;
-      place = omega (arith, h.place, length-append before (line ∷ []));
-      passes = λ next others. passes_more before line h.passed next others e ∙ h.passes next others ∙ ap (λ (b : List (List ℕ)). first_fault b (next ∷ others)) same;
-      bad = λ next others is. subst (λ (b : List (List ℕ)). (cause : JournalCause) × (cause_of b h.line ≡ Some cause)) same (h.bad next others is);
-    }
-
--- what the cause of a line was
-cases_cause : (o : Option JournalCause) → (o ≡ None) ⊎ ((cause : JournalCause) × (o ≡ Some cause))
-cases_cause None = inl refl
-cases_cause (Some cause) = inr (cause, refl)
-
--- no list is both empty and not
-no_more : {G : Type 0} (next : List ℕ) (others : List (List ℕ)) → [] ≡ next ∷ others → G
-no_more next others e = absurd (omega (arith, ap length e))
-
--- where the first fault was found
-found_at : (line : List ℕ) (lines before : List (List ℕ)) (fault : JournalFault) → first_fault before (line ∷ lines) ≡ Some fault → Found before (line ∷ lines) fault
-unfolding first_fault
-found_at line [] before fault e = found_here before line [] fault (chosen before (last_cause before line) fault e) (λ next others is. no_more next others is)
-found_at line (next ∷ more) before fault e =
-    elim (cases_cause (cause_of before line)) [
-      | inl stands ↦ found_further before line (next ∷ more) fault stands (found_at next more (before ++ line ∷ []) fault (sym (goes_on before line next more stands) ∙ e))
-      | inr (cause, bad) ↦ found_here before line (next ∷ more) fault (chosen before (Some cause) fault (sym (ends_at before line next more cause bad) ∙ e)) (λ n o is. (cause, bad))
+-- the fault that ends a reading
+found_at : (s : Sofar) (n : ℕ) (first : List ℕ) (more : List (List ℕ)) (fault : JournalFault) → run s n (first ∷ more) ≡ Err fault → Found s n (first ∷ more) fault
+unfolding steps run
+found_at s n first [] fault e = record {
+  passed = [];
+  line = first;
+  more = [];
+  are = refl;
+  reached = s;
+  taken = refl;
+  place = omega (arith, last_place s n first fault e);
+  bad = λ next others is. absurd (omega (arith, ap length is));
+}
+found_at s n first (next ∷ more) fault e =
+    elim (cases_Result (step s (words_of first))) [
+      | inl (further, stepped) ↦
+          let f = found_at further (n + 1) next more fault (sym (run_goes_on s further n first next more stepped) ∙ e) in
+          record {
+            passed = first ∷ f.passed;
+            line = f.line;
+            more = f.more;
+            are = ap (λ (ps : List (List ℕ)). first ∷ ps) f.are;
+            reached = f.reached;
+            taken = steps_cons s further (words_of first) (map words_of f.passed) stepped ∙ f.taken;
+            place = omega (arith, f.place);
+            bad = f.bad;
+          }
+      | inr (cause, refused) ↦ record {
+        passed = [];
+        line = first;
+        more = next ∷ more;
+        are = refl;
+        reached = s;
+        taken = refl;
+        place = omega (arith, ap (λ (f : JournalFault). f.line) (fault_is fault (fault_at n cause) (run s n (first ∷ next ∷ more)) e (run_ends s n first next more cause refused)));
+        bad = λ n o is. (cause, refused);
+      }
     ]
 
--- the first line of a list
-head_is : (x y : List ℕ) (xs ys : List (List ℕ)) → x ∷ xs ≡ y ∷ ys → (x ≡ y) × (xs ≡ ys)
-head_is x y xs ys e = (cc, cc)
+-- lines fall into words, and these into the lines again
+spaced_words : (lines : List (List ℕ)) → map spaced (map words_of lines) ≡ lines
+spaced_words [] = refl
+spaced_words (l ∷ lines) = rw (join_with_byte-slice_split 32 l) (ap (λ (ls : List (List ℕ)). l ∷ ls) (spaced_words lines))
 
--- whole lines of a text may be followed by any other text
-other_tail : (text : List ℕ) (before : List (List ℕ)) (next : List ℕ) (more : List (List ℕ)) → lines_of text ≡ before ++ next ∷ more → (front : List ℕ) × ((tail : List ℕ) → lines_of (front ++ tail) ≡ before ++ lines_of tail)
-other_tail text [] next more e = ([], λ tail. refl)
-other_tail [] (l ∷ before) next more e = absurd (omega (arith, ap length e, length-append before (next ∷ more)))
-other_tail (b ∷ text) (l ∷ before) next more e =
-    let p = λ (x : ℕ). eqb x 10 in
-    elim (cases_Bool (eqb b 10)) [
-      | inl cut ↦
-          let is = head_is [] l (lines_of text) (before ++ next ∷ more) (sym (slice_split-cons_yes p b text cut) ∙ e) in
-          let rest = other_tail text before next more is.1 in
-          (b ∷ rest.0, λ tail. slice_split-cons_yes p b (rest.0 ++ tail) cut ∙ ap (λ (ls : List (List ℕ)). [] ∷ ls) (rest.1 tail) ∙ ap (λ (x : List ℕ). x ∷ (before ++ lines_of tail)) is.0)
-      | inr uncut ↦
-          let first = parts_of-first 10 text in
-          let is = head_is (b ∷ first.0) l first.1 (before ++ next ∷ more) (ap (onto_first b) (sym first.2) ∙ sym (slice_split-cons_no p b text uncut) ∙ e) in
-          let rest = other_tail text (first.0 ∷ before) next more (first.2 ∙ ap (λ (ls : List (List ℕ)). first.0 ∷ ls) is.1) in
-          (b ∷ rest.0, λ tail. slice_split-cons_no p b (rest.0 ++ tail) uncut ∙ ap (onto_first b) (rest.1 tail) ∙ ap (λ (x : List ℕ). x ∷ (before ++ lines_of tail)) is.0)
-    ]
+-- there is always a part behind the last line
+some_part : (lines : List (List (List ℕ))) → (next : List ℕ) × (more : List (List ℕ)) × (map spaced lines ++ [] ∷ [] ≡ next ∷ more)
+some_part [] = ([], [], refl)
+some_part (words ∷ lines) = (spaced words, map spaced lines ++ [] ∷ [], refl)
 
--- a text without a fault is a journal's
-spelled_without : (text : List ℕ) → fault_of text ≡ None → (j : Journal) × Spells text j
-spelled_without text none = subst (λ o. MatchOption o ((j : Journal) × Spells text j) (λ _. (j : Journal) → Spells text j → ⊥)) none (spelled_or_fault text)
+-- lines that were taken are the beginning of a journal's text
+may_stand : (lines : List (List ℕ)) (reached : Sofar) → steps (InHead place.Version nothing) (map words_of lines) ≡ Ok reached → MayStand lines
+unfolding said IsSaid
+may_stand lines reached taken =
+    let f = finish reached in
+    let whole : steps (InHead place.Version nothing) (map words_of lines ++ f.lines) ≡ Ok (Behind f.journal) = steps_append (InHead place.Version nothing) reached (map words_of lines) f.lines taken ∙ f.made in
+    let t = steps_take (InHead place.Version nothing) (Behind f.journal) (map words_of lines ++ f.lines) refl whole in
+    let some = some_part f.lines in
+    record {
+      journal = f.journal;
+      writable = t.1;
+      next = some.0;
+      more = some.1;
+      text = text_parts f.journal t.1
+          ∙ ap (λ (ls : List (List (List ℕ))). map spaced ls ++ [] ∷ []) t.0
+          ∙ ap (λ (ls : List (List ℕ)). ls ++ [] ∷ []) (map-append spaced (map words_of lines) f.lines)
+          ∙ append_assoc (map spaced (map words_of lines)) (map spaced f.lines) ([] ∷ [])
+          ∙ ap (λ (ls : List (List ℕ)). ls ++ (map spaced f.lines ++ [] ∷ [])) (spaced_words lines)
+          ∙ ap (λ (ls : List (List ℕ)). lines ++ ls) some.2;
+    }
 
--- a journal's text has no fault
-fault_free : (text : List ℕ) (fault : JournalFault) (j : Journal) → fault_of text ≡ Some fault → Spells text j → ⊥
-fault_free text fault j e h = subst (λ o. MatchOption o ((j : Journal) × Spells text j) (λ _. (j : Journal) → Spells text j → ⊥)) e (spelled_or_fault text) j h
+-- no journal's text begins with lines that were taken and a line that cannot be
+stuck_at : (lines : List (List ℕ)) (line : List ℕ) (reached : Sofar) (cause : JournalCause) → steps (InHead place.Version nothing) (map words_of lines) ≡ Ok reached → step reached (words_of line) ≡ Err cause → MayStand (lines ++ line ∷ []) → ⊥
+unfolding journal_in
+stuck_at lines line reached cause taken refused h =
+    let parts : lines_of (text_of h.journal) ≡ lines ++ line ∷ h.next ∷ h.more = h.text ∙ append_assoc lines (line ∷ []) (h.next ∷ h.more) in
+    let n = 1 + length lines in
+    not_both h.journal (fault_at n cause) (journal_in (text_of h.journal)) (journal_again h.journal h.writable) (ap (run (InHead place.Version nothing) 1) parts ∙ run_passes (InHead place.Version nothing) reached 1 n lines line (h.next ∷ h.more) taken refl ∙ run_ends reached n line h.next h.more cause refused)
 
--- lines that the search passes are the beginning of a journal's text
-stand_of : (text : List ℕ) (before : List (List ℕ)) (line : List ℕ) (more : List (List ℕ)) → lines_of text ≡ before ++ line ∷ more → ((next : List ℕ) (others : List (List ℕ)) → first_fault [] (before ++ next ∷ others) ≡ first_fault before (next ∷ others)) → MayStand before
-unfolding fault_of
-stand_of text before line more are passes =
-    let front = other_tail text before line more are in
-    let tail = finish before in
-    let some = parts_of-first 10 tail.0 in
-    let lines : lines_of (front.0 ++ tail.0) ≡ before ++ some.0 ∷ some.1 = front.1 tail.0 ∙ ap (λ (ls : List (List ℕ)). before ++ ls) some.2 in
-    let none : fault_of (front.0 ++ tail.0) ≡ None = ap (first_fault []) lines ∙ passes some.0 some.1 ∙ ap (first_fault before) (sym some.2) ∙ tail.1 in
-    let j = spelled_without (front.0 ++ tail.0) none in
-    record { journal = j.0; writable = j.1.writable; next = some.0; more = some.1; text = ap lines_of j.1.text ∙ lines }
-
--- no journal's text begins with a line that has a cause
-stuck_at : (before : List (List ℕ)) (line : List ℕ) (cause : JournalCause) → cause_of before line ≡ Some cause → ((next : List ℕ) (others : List (List ℕ)) → first_fault [] (before ++ next ∷ others) ≡ first_fault before (next ∷ others)) → MayStand (before ++ line ∷ []) → ⊥
-unfolding fault_of
-stuck_at before line cause bad passes h =
-    let lines : lines_of (text_of h.journal) ≡ before ++ line ∷ h.next ∷ h.more = h.text ∙ append_assoc before (line ∷ []) (h.next ∷ h.more) in
-    fault_free (text_of h.journal) (fault_behind before cause) h.journal (ap (first_fault []) lines ∙ passes line (h.next ∷ h.more) ∙ ends_at before line h.next h.more cause bad) (record { writable = h.writable; text = refl })
+-- the fault of a reading that has one
+fault_in_is : (r : Result Journal JournalFault) (fault : JournalFault) → fault_in r ≡ Some fault → r ≡ Err fault
+fault_in_is (Ok j) fault e = absurd cc
+fault_in_is (Err f) fault e = let is : f ≡ fault = cc in ap Err is
 
 -- the first fault of a text is of the first line that cannot stand
 pub fault_first : (text : List ℕ) (fault : JournalFault) → fault_of text ≡ Some fault → IsFirst text fault
-unfolding fault_of
+unfolding journal_in
 fault_first text fault e =
     let some = parts_of-first 10 text in
-    let h = found_at some.0 some.1 [] fault (ap (first_fault []) (sym some.2) ∙ e) in
-    let are : lines_of text ≡ h.passed ++ h.line ∷ h.more = some.2 ∙ h.are in
+    let f = found_at (InHead place.Version nothing) 1 some.0 some.1 fault (ap (run (InHead place.Version nothing) 1) (sym some.2) ∙ fault_in_is (journal_in text) fault e) in
     record {
-      before = h.passed;
-      line = h.line;
-      more = h.more;
-      lines = are;
-      place = omega (arith, h.place);
-      stand = stand_of text h.passed h.line h.more are h.passes;
-      stuck = λ next others is h-may. let c = h.bad next others is in stuck_at h.passed h.line c.0 c.1 h.passes h-may;
+      before = f.passed;
+      line = f.line;
+      more = f.more;
+      lines = some.2 ∙ f.are;
+      place = omega (arith, f.place);
+      stand = may_stand f.passed f.reached f.taken;
+      stuck = λ next others is h. let c = f.bad next others is in stuck_at f.passed f.line f.reached c.0 f.taken c.1 h;
     }

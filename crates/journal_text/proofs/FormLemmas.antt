@@ -8,7 +8,8 @@ use Rattle.std.proofs.lemmas.Fmt.{decimal_nonempty}
 use Rattle.std.proofs.lemmas.Slice.Eq.{bytes_eq-Decides}
 use Rattle.decimals.specs.Decimals.{number_of}
 use Rattle.decimals.proofs.DecimalLemmas.{number_of-says, all_digits-decimal}
-use Rattle.journal_text.specs.Lines.{first, two, three, four}
+use Rattle.journal_text.specs.Lines.{next_word, two, three, four}
+use Rattle.journal_text.specs.EntryForms.{next_number}
 use Rattle.journal_text.proofs.Fails.{bind_some, guard_some, some, some_is}
 
 -- a word that passes the test for another is that word
@@ -41,12 +42,6 @@ four_is (a ∷ words) w e =
     let b = bind_some (three words) (λ (others : List ℕ × List ℕ × List ℕ). Some (a, others.0, others.1, others.2)) w e in
     let is = three_is words b.0 b.1 in
     subst (λ (w : List ℕ × List ℕ × List ℕ × List ℕ). a ∷ words ≡ w.0 ∷ w.1 ∷ w.2 ∷ w.3 ∷ []) (some_is (a, b.0.0, b.0.1, b.0.2) w b.2) (ap (λ (words : List (List ℕ)). a ∷ words) is)
-
--- a line with a first word has this word and those behind it
-pub first_is : (words : List (List ℕ)) (w : List ℕ × List (List ℕ)) → first words ≡ Some w → words ≡ w.0 ∷ w.1
-first_is [] w e = absurd cc
-first_is (a ∷ []) w e = absurd cc
-first_is (a ∷ b ∷ more) w e = subst (λ (w : List ℕ × List (List ℕ)). a ∷ b ∷ more ≡ w.0 ∷ w.1) (some_is (a, b ∷ more) w e) refl
 
 -- a line of four words, the first of which is the key
 pub keyed_four : {A : Type 0} (words : Option (List ℕ × List ℕ × List ℕ × List ℕ)) (key : List ℕ) (f : List ℕ × List ℕ × List ℕ × List ℕ → Option A) (y : A) → option_and_then (λ w. cond (bytes_eq w.0 key) (f w) None) words ≡ Some y → (w : List ℕ × List ℕ × List ℕ × List ℕ) × (words ≡ Some w) × (w.0 ≡ key) × (f w ≡ Some y)
@@ -94,3 +89,15 @@ digit_front (digit ∷ digits) some all =
 -- a decimal begins with a digit
 pub decimal_front : (n : ℕ) → n < 10 ^ 10 → (digit : ℕ) × (more : List ℕ) × (decimal n ≡ digit ∷ more) × (48 ≤ digit) × (digit ≤ 57)
 decimal_front n small = digit_front (decimal n) (decimal_nonempty n (omega (arith, small))) (all_digits-decimal n small)
+
+-- a number that was taken stood in front as its decimal
+pub next_number_is : (words : List (List ℕ)) (n : ℕ × List (List ℕ)) → next_number words ≡ Some n → words ≡ decimal n.0 ∷ n.1
+next_number_is [] n e = absurd cc
+next_number_is (word ∷ words) n e =
+    let b = bind_some (number_of word) (λ k. some (k, words)) n e in
+    subst (λ (n : ℕ × List (List ℕ)). word ∷ words ≡ decimal n.0 ∷ n.1) (some_is (b.0, words) n b.2) (ap (λ (w : List ℕ). w ∷ words) (decimal_is word b.0 b.1))
+
+-- a word that was taken stood in front
+pub next_word_is : (words : List (List ℕ)) (w : List ℕ × List (List ℕ)) → next_word words ≡ Some w → words ≡ w.0 ∷ w.1
+next_word_is [] w e = absurd cc
+next_word_is (word ∷ words) w e = subst (λ (w : List ℕ × List (List ℕ)). word ∷ words ≡ w.0 ∷ w.1) (some_is (word, words) w e) refl

@@ -1,27 +1,24 @@
--- The lines before the first player: what they say is what they were written from, and what was written is read again.
-use Rattle.std.proofs.Common.{◌≡◌, ℕ, ◌*◌, ◌/◌, ◌^◌, ◌<◌, ◌≤◌, true, cond, eqb, leb, ltb, not, ◌&&◌, List, [], ◌∷◌, ◌++◌, Some, None, Ok, refl, ap, subst, ◌∙◌, arith}
+-- The lines of the head: what they say is what they were written from, and what was written is read again.
+use Rattle.std.proofs.Common.{◌≡◌, ℕ, ◌*◌, ◌/◌, ◌^◌, ◌<◌, ◌≤◌, true, cond, eqb, leb, ltb, not, ◌&&◌, ◌||◌, List, [], ◌∷◌, ◌++◌, Option, Some, None, Ok, refl, sym, ap, subst, ◌∙◌, append_assoc, arith, ◌⊎◌, inl, inr}
 use Rattle.std.specs.Prelude.{codes}
 use Rattle.std.specs.Fmt.{decimal}
-use Rattle.std.specs.List.{AllByRecursion}
 use Rattle.std.specs.Str.{bytes_eq}
-use Rattle.std.proofs.lemmas.Bool.{and_parts, and_from, leb-true, le-leb, ltb-true, lt-ltb}
+use Rattle.std.proofs.lemmas.Fmt.{decimal_digit}
+use Rattle.std.proofs.lemmas.Bool.{and_parts, and_from, or_cases, eqb-true, leb-true, le-leb, ltb-true, lt-ltb}
 use Rattle.std.proofs.lemmas.Bool.Decides.{nat_tests}
-use Rattle.std.proofs.lemmas.Slice.Eq.{bytes_eq-Decides}
 use Rattle.decimals.specs.Decimals.{number_of}
 use Rattle.decimals.proofs.DecimalLemmas.{number_of-decimal}
-use Rattle.entries.specs.Ranges.{IsControl, IsGood}
+use Rattle.entries.specs.Ranges.{IsControl}
 use Rattle.entries.specs.declared.setup.Control.{Control}
-use Rattle.entries.specs.declared.setup.Setup.{Setup}
-use Rattle.journal_text.specs.declared.fault.JournalCause.TheVariants.{Form}
+use Rattle.journal_text.specs.declared.head.Place.{Place}
+use Rattle.journal_text.specs.declared.head.Place.TheVariants as place
 use Rattle.journal_text.specs.declared.head.Head.{Head}
-use Rattle.journal_text.specs.Lines.{line, lines_of, words_of, two, three, four}
-use Rattle.journal_text.specs.Text.{version_line, control_line, window_line, wave_line, leaders_line}
-use Rattle.journal_text.specs.Forms.{number_form, number_in, is_within, control_form, control_fits, control_made, control_in, window_form, window_fits, window_in}
-use Rattle.journal_text.specs.Reading.{fault_at, next, head_in}
-use Rattle.journal_text.proofs.Fails.{bind_some, guard_some, some, line_ok, judged_ok, judged_again, text_ok_is, bind_ok, guard_ok}
+use Rattle.journal_text.specs.Lines.{two, three, four}
+use Rattle.journal_text.specs.Text.{control_words, window_words, number_words, version_lines}
+use Rattle.journal_text.specs.Forms.{number_form, number_in, is_within, version_form, version_in, control_form, control_fits, control_made, control_in, window_form, window_fits, window_in}
+use Rattle.journal_text.specs.Reading.{behind_version, head_in}
+use Rattle.journal_text.proofs.Fails.{bind_some, guard_some, some, some_is, line_ok, line_ok_is, formed_ok, judged_ok, judged_again, bind_ok}
 use Rattle.journal_text.proofs.FormLemmas.{same_word, word_itself, two_is, three_is, four_is, keyed_four, keyed_three, two_numbers, three_numbers, decimal_is, three_same, four_same}
-use Rattle.journal_text.proofs.WordLemmas.{IsWord, tested_word, words_of-spaced, next-line, IsWord-decimal}
-use Rattle.journal_text.proofs.ReadLines.{joined, next_takes, line_takes, line_read}
 
 -- ---- a line of one number
 
@@ -43,10 +40,6 @@ number_again word least most n small low high =
     judged_again (number_form word (word ∷ decimal n ∷ [])) (is_within least most) (λ n. n) n (rw (word_itself word, number_of-decimal n small) refl) (and_from (leb least n) (leb n most) (le-leb least n low) (le-leb n most high))
 
 -- ---- the time control
-
--- the words of a time control
-abbrev pub control_words : Control → List (List ℕ)
-control_words c = codes "control" ∷ decimal (c.initial_ms / 1000) ∷ decimal (c.inc_ms / 1000) ∷ decimal c.first_ms ∷ []
 
 -- what the tests of a control say
 control_in_range : (n : ℕ × ℕ × ℕ) → control_fits n ≡ true → IsControl (control_made n)
@@ -107,84 +100,62 @@ control_again c h =
 
 -- ---- the window
 
--- the words of a window
-abbrev pub window_words : ℕ × ℕ → List (List ℕ)
-window_words n = codes "window" ∷ decimal n.0 ∷ decimal n.1 ∷ []
-
 -- the window that a line says has these words, and is in range
-pub window_takes : (words : List (List ℕ)) (n : ℕ × ℕ) → window_in words ≡ Ok n → (words ≡ window_words n) × (n.0 < n.1) × (n.1 ≤ 900000000)
+pub window_takes : (words : List (List ℕ)) (n : ℕ × ℕ) → window_in words ≡ Ok n → (words ≡ window_words n.0 n.1) × (n.0 < n.1) × (n.1 ≤ 900000000)
 unfolding window_in window_form
 window_takes words n e =
     let j = judged_ok (window_form words) window_fits (λ n. n) n e in
     let w = keyed_three (three words) (codes "window") _ j.0 j.1 in
     let m = two_numbers (number_of w.0.1) (number_of w.0.2) j.0 w.3 in
     let fit = and_parts (ltb j.0.0 j.0.1) (leb j.0.1 900000000) j.2 in
-    let words_are : words ≡ window_words j.0 = three_is words w.0 w.1 ∙ three_same w.0.0 w.0.1 w.0.2 (codes "window") (decimal j.0.0) (decimal j.0.1) w.2 (decimal_is w.0.1 j.0.0 m.0) (decimal_is w.0.2 j.0.1 m.1) in
-    subst (λ (n : ℕ × ℕ). (words ≡ window_words n) × (n.0 < n.1) × (n.1 ≤ 900000000)) j.3 (words_are, ltb-true j.0.0 j.0.1 fit.0, leb-true j.0.1 900000000 fit.1)
+    let words_are : words ≡ window_words j.0.0 j.0.1 = three_is words w.0 w.1 ∙ three_same w.0.0 w.0.1 w.0.2 (codes "window") (decimal j.0.0) (decimal j.0.1) w.2 (decimal_is w.0.1 j.0.0 m.0) (decimal_is w.0.2 j.0.1 m.1) in
+    subst (λ (n : ℕ × ℕ). (words ≡ window_words n.0 n.1) × (n.0 < n.1) × (n.1 ≤ 900000000)) j.3 (words_are, ltb-true j.0.0 j.0.1 fit.0, leb-true j.0.1 900000000 fit.1)
 
 -- the words of a window in range say this window
-pub window_again : (starts ends : ℕ) → starts < ends → ends ≤ 900000000 → window_in (window_words (starts, ends)) ≡ Ok (starts, ends)
+pub window_again : (starts ends : ℕ) → starts < ends → ends ≤ 900000000 → window_in (window_words starts ends) ≡ Ok (starts, ends)
 unfolding window_in window_form
 window_again starts ends before most =
-    let formed : window_form (window_words (starts, ends)) ≡ Some (starts, ends) = rw (number_of-decimal starts (omega arith), number_of-decimal ends (omega arith)) refl in
-    judged_again (window_form (window_words (starts, ends))) window_fits (λ n. n) (starts, ends) formed (and_from (ltb starts ends) (leb ends 900000000) (lt-ltb starts ends before) (le-leb ends 900000000 most))
+    let formed : window_form (window_words starts ends) ≡ Some (starts, ends) = rw (number_of-decimal starts (omega arith), number_of-decimal ends (omega arith)) refl in
+    judged_again (window_form (window_words starts ends)) window_fits (λ n. n) (starts, ends) formed (and_from (ltb starts ends) (leb ends 900000000) (lt-ltb starts ends before) (le-leb ends 900000000 most))
 
--- ---- the words of these lines
+-- ---- the version
 
--- the version is made of words
-pub version_is_words : AllByRecursion IsWord (codes "arena" ∷ codes "1" ∷ [])
-version_is_words = (tested_word (codes "arena") refl, (tested_word (codes "1") refl, tt))
+-- the first line is that of version 1 or of version 2
+version_takes : (words : List (List ℕ)) (version : ℕ) → version_in words ≡ Ok version → (words ≡ codes "arena" ∷ decimal version ∷ []) × ((version ≡ 1) ⊎ (version ≡ 2))
+unfolding version_in version_form number_form
+version_takes words version e =
+    let f = formed_ok (version_form words) line_ok version e in
+    let b = bind_some (number_form (codes "arena") words) _ f.0 f.1 in
+    let g = guard_some (eqb b.0 1 || eqb b.0 2) (some b.0) f.0 b.2 in
+    let t = bind_some (two words) (λ w. cond (bytes_eq w.0 (codes "arena")) (number_of w.1) None) b.0 b.1 in
+    let k = guard_some (bytes_eq t.0.0 (codes "arena")) (number_of t.0.1) b.0 t.2 in
+    let is : b.0 ≡ version = some_is b.0 f.0 g.1 ∙ line_ok_is f.0 version f.2 in
+    let words_are : words ≡ codes "arena" ∷ decimal b.0 ∷ [] = two_is words t.0 t.1 ∙ ap (λ (a : List ℕ). a ∷ t.0.1 ∷ []) (same_word t.0.0 (codes "arena") k.0) ∙ ap (λ (a : List ℕ). codes "arena" ∷ a ∷ []) (decimal_is t.0.1 b.0 k.1) in
+    let one : (b.0 ≡ 1) ⊎ (b.0 ≡ 2) = elim (or_cases (eqb b.0 1) (eqb b.0 2) g.0) [
+      | inl first ↦ inl (eqb-true b.0 1 first)
+      | inr second ↦ inr (eqb-true b.0 2 second)
+    ] in
+    subst (λ (v : ℕ). (words ≡ codes "arena" ∷ decimal v ∷ []) × ((v ≡ 1) ⊎ (v ≡ 2))) is (words_are, one)
 
--- a time control is made of words
-pub control_is_words : (c : Control) → IsControl c → AllByRecursion IsWord (control_words c)
-control_is_words c h = (tested_word (codes "control") refl, (IsWord-decimal (c.initial_ms / 1000) (omega (arith, h.initial_most)), (IsWord-decimal (c.inc_ms / 1000) (omega (arith, h.increment_most)), (IsWord-decimal c.first_ms (omega (arith, h.first_most)), tt))))
+-- ---- the head so far
 
--- a word and a number are words
-pub number_is_words : (word : List ℕ) (n : ℕ) → IsWord word → n < 10 ^ 10 → AllByRecursion IsWord (word ∷ decimal n ∷ [])
-number_is_words word n h small = (h, (IsWord-decimal n small, tt))
+-- a version, and the rule that it is under
+pub data IsVersion (h : Head) : Type 0 where
+  One : h.version ≡ 1 → h.rule ≡ 1 → IsVersion h
+  Two : h.version ≡ 2 → 1 ≤ h.rule → h.rule ≤ 2 → IsVersion h
 
--- a window is made of words
-pub window_is_words : (n : ℕ × ℕ) → n.0 < 10 ^ 10 → n.1 < 10 ^ 10 → AllByRecursion IsWord (window_words n)
-window_is_words n a b = (tested_word (codes "window") refl, (IsWord-decimal n.0 a, (IsWord-decimal n.1 b, tt)))
+-- what the lines of the head before this one have said is in range
+abbrev pub IsHead : Place → Head → Type 0
+IsHead place.Version h = h.rule ≡ 1
+IsHead place.Rule h = h.version ≡ 2
+IsHead place.Control h = IsVersion h
+IsHead place.Window h = IsVersion h × IsControl h.control
+IsHead place.Wave h = IsVersion h × IsControl h.control × (h.starts < h.ends) × (h.ends ≤ 900000000)
+IsHead place.Leaders h = IsVersion h × IsControl h.control × (h.starts < h.ends) × (h.ends ≤ 900000000) × (100 ≤ h.wave_ms) × (h.wave_ms ≤ 600000)
 
--- ---- what was written is read again
-
--- what a setup says before its players
-abbrev pub head_of : Setup → Head
-head_of s = record { control = s.control; starts = s.starts; ends = s.ends; wave_ms = s.wave_ms; leaders = s.leaders }
-
--- these lines of a good setup are read again
-pub head_again : (s : Setup) (rest : List ℕ) → IsGood s → head_in (lines_of (version_line ++ (control_line s.control ++ (window_line s ++ (wave_line s ++ (leaders_line s ++ rest)))))) ≡ Ok (head_of s, lines_of rest)
-unfolding head_in version_line control_line window_line wave_line leaders_line
-head_again s rest h =
-    let ends : s.ends < 10 ^ 10 = omega (arith, h.ends_most) in
-    let starts : s.starts < 10 ^ 10 = omega (arith, h.opens_before_end) in
-    let wave : s.wave_ms < 10 ^ 10 = omega (arith, h.wave_most) in
-    let leaders : s.leaders < 10 ^ 10 = omega (arith, h.leaders_most) in
-    let control_words_are = control_is_words s.control h.timed in
-    let window_words_are = window_is_words (s.starts, s.ends) starts ends in
-    let wave_words_are = number_is_words (codes "wave") s.wave_ms (tested_word (codes "wave") refl) wave in
-    let leaders_words_are = number_is_words (codes "leaders") s.leaders (tested_word (codes "leaders") refl) leaders in
-    rw (
-      next-line 1 (codes "arena" ∷ codes "1" ∷ []) (control_line s.control ++ (window_line s ++ (wave_line s ++ (leaders_line s ++ rest)))) version_is_words,
-      next-line 2 (control_words s.control) (window_line s ++ (wave_line s ++ (leaders_line s ++ rest))) control_words_are,
-      words_of-spaced (codes "control") _ control_words_are,
-      control_again s.control h.timed,
-      next-line 3 (window_words (s.starts, s.ends)) (wave_line s ++ (leaders_line s ++ rest)) window_words_are,
-      words_of-spaced (codes "window") _ window_words_are,
-      window_again s.starts s.ends h.opens_before_end h.ends_most,
-      next-line 4 (codes "wave" ∷ decimal s.wave_ms ∷ []) (leaders_line s ++ rest) wave_words_are,
-      words_of-spaced (codes "wave") _ wave_words_are,
-      number_again (codes "wave") 100 600000 s.wave_ms wave h.wave_least h.wave_most,
-      next-line 5 (codes "leaders" ∷ decimal s.leaders ∷ []) rest leaders_words_are,
-      words_of-spaced (codes "leaders") _ leaders_words_are,
-      number_again (codes "leaders") 1 20 s.leaders leaders h.leaders_least h.leaders_most,
-    ) refl
-
--- ---- what is read was written so
-
--- the values of these lines are in their ranges
-pub record IsHead (h : Head) : Type 0 where
+-- a whole head in range
+pub record IsWholeHead (h : Head) : Type 0 where
+  pub version : IsVersion h
   pub timed : IsControl h.control
   pub opens_before_end : h.starts < h.ends
   pub ends_most : h.ends ≤ 900000000
@@ -193,38 +164,78 @@ pub record IsHead (h : Head) : Type 0 where
   pub leaders_least : 1 ≤ h.leaders
   pub leaders_most : h.leaders ≤ 20
 
--- the five lines before a rest
-abbrev pub head_text : Head → List ℕ → List ℕ
-head_text h rest = line (codes "arena" ∷ codes "1" ∷ []) ++ (line (control_words h.control) ++ (line (window_words (h.starts, h.ends)) ++ (line (codes "wave" ∷ decimal h.wave_ms ∷ []) ++ (line (codes "leaders" ∷ decimal h.leaders ∷ []) ++ rest))))
+-- the lines of the head before this one
+abbrev pub head_said : Place → Head → List (List (List ℕ))
+head_said place.Version h = []
+head_said place.Rule h = (codes "arena" ∷ codes "2" ∷ []) ∷ []
+head_said place.Control h = version_lines h.version h.rule
+head_said place.Window h = version_lines h.version h.rule ++ control_words h.control ∷ []
+head_said place.Wave h = version_lines h.version h.rule ++ control_words h.control ∷ window_words h.starts h.ends ∷ []
+head_said place.Leaders h = version_lines h.version h.rule ++ control_words h.control ∷ window_words h.starts h.ends ∷ number_words (codes "wave") h.wave_ms ∷ []
 
--- five lines, one behind the other, are this text
-five_lines : (h : Head) (a b c d e f : List ℕ) → a ≡ line (codes "arena" ∷ codes "1" ∷ []) ++ b → b ≡ line (control_words h.control) ++ c → c ≡ line (window_words (h.starts, h.ends)) ++ d → d ≡ line (codes "wave" ∷ decimal h.wave_ms ∷ []) ++ e → e ≡ line (codes "leaders" ∷ decimal h.leaders ∷ []) ++ f → a ≡ head_text h f
-five_lines h a b c d e f p q r s t = rw (p, q, r, s, t) refl
+-- all lines of the head
+abbrev pub whole_said : Head → List (List (List ℕ))
+whole_said h = version_lines h.version h.rule ++ control_words h.control ∷ window_words h.starts h.ends ∷ number_words (codes "wave") h.wave_ms ∷ number_words (codes "leaders") h.leaders ∷ []
 
--- the first line is that of the version
-version_takes : (lines : List (List ℕ)) (n : List ℕ × List (List ℕ)) → next 1 lines ≡ Ok n → bytes_eq n.0 (codes "arena 1") ≡ true → joined lines ≡ line (codes "arena" ∷ codes "1" ∷ []) ++ joined n.1
-version_takes lines n e is = next_takes 1 lines n e ∙ ap (λ (bytes : List ℕ). bytes ++ (10 ∷ joined n.1)) ((bytes_eq-Decides n.0 (codes "arena 1")).0 is)
+-- what the lines of the head have said behind one more
+abbrev pub IsHeadBehind : Option Place × Head → Type 0
+IsHeadBehind (None, h) = IsWholeHead h
+IsHeadBehind (Some place, h) = IsHead place h
 
--- what is read of these lines was written so, and is in range
-pub head_takes : (lines : List (List ℕ)) (r : Head × List (List ℕ)) → head_in lines ≡ Ok r → (joined lines ≡ head_text r.0 (joined r.1)) × IsHead r.0
+-- the lines of the head so far
+abbrev pub behind_said : Option Place × Head → List (List (List ℕ))
+behind_said (None, h) = whole_said h
+behind_said (Some place, h) = head_said place h
+
+-- heads of one version and rule
+same_version : (h k : Head) → IsVersion h → k.version ≡ h.version → k.rule ≡ h.rule → IsVersion k
+same_version h k (One v r) e f = One (e ∙ v) (f ∙ r)
+same_version h k (Two v least most) e f = Two (e ∙ v) (omega (arith, least, f)) (omega (arith, most, f))
+
+-- no further line of the head
+abbrev no_place : Option Place
+no_place = None
+
+-- one line more of the head was taken
+abbrev Takes : Place → Head → List (List ℕ) → Option Place × Head → Type 0
+Takes place h words r = (behind_said r ≡ head_said place h ++ words ∷ []) × IsHeadBehind r
+
+-- a line behind others
+one_behind : (said more : List (List (List ℕ))) (words line : List (List ℕ)) → words ≡ line → said ++ (more ++ line ∷ []) ≡ (said ++ more) ++ words ∷ []
+one_behind said more words line is = rw is (sym (append_assoc said more (line ∷ [])))
+
+-- the version was taken
+version_taken : (h : Head) (words : List (List ℕ)) (version : ℕ) → h.rule ≡ 1 → words ≡ codes "arena" ∷ decimal version ∷ [] → (version ≡ 1) ⊎ (version ≡ 2) → Takes place.Version h words (Some (behind_version version), record h { version = version })
+version_taken h words version ruled are (inl first) = subst (λ (v : ℕ). Takes place.Version h words (Some (behind_version v), record h { version = v })) (sym first) (ap (λ (l : List (List ℕ)). l ∷ []) (sym (are ∙ ap (λ (v : ℕ). codes "arena" ∷ decimal v ∷ []) first ∙ ap (λ (w : List ℕ). codes "arena" ∷ w ∷ []) (decimal_digit 1 (omega arith)))), One refl ruled)
+version_taken h words version ruled are (inr second) = subst (λ (v : ℕ). Takes place.Version h words (Some (behind_version v), record h { version = v })) (sym second) (ap (λ (l : List (List ℕ)). l ∷ []) (sym (are ∙ ap (λ (v : ℕ). codes "arena" ∷ decimal v ∷ []) second ∙ ap (λ (w : List ℕ). codes "arena" ∷ w ∷ []) (decimal_digit 2 (omega arith)))), refl)
+
+-- what is read of a line of the head was written so, and is in range
+pub head_takes : (p : Place) (h : Head) (words : List (List ℕ)) (r : Option Place × Head) → IsHead p h → head_in p h words ≡ Ok r → Takes p h words r
 unfolding head_in
-head_takes lines r e =
-    let v = bind_ok (next 1 lines) _ r e in
-    let a = guard_ok (bytes_eq v.0.0 (codes "arena 1")) _ (fault_at 1 Form) r v.2 in
-    let c = line_read 2 v.0.1 control_in _ r a.1 in
-    let w = line_read 3 c.0.1 window_in _ r c.4 in
-    let i = line_read 4 w.0.1 (number_in (codes "wave") 100 600000) _ r w.4 in
-    let l = line_read 5 i.0.1 (number_in (codes "leaders") 1 20) _ r i.4 in
-    let control = control_takes (words_of c.0.0) c.1 c.3 in
-    let window = window_takes (words_of w.0.0) w.1 w.3 in
-    let wave = number_takes (codes "wave") 100 600000 (words_of i.0.0) i.1 i.3 in
-    let leaders = number_takes (codes "leaders") 1 20 (words_of l.0.0) l.1 l.3 in
-    let h : Head = record { control = c.1; starts = w.1.0; ends = w.1.1; wave_ms = i.1; leaders = l.1 } in
-    let text = five_lines h (joined lines) (joined v.0.1) (joined c.0.1) (joined w.0.1) (joined i.0.1) (joined l.0.1)
-    (version_takes lines v.0 v.1 a.0)
-    (line_takes 2 v.0.1 c.0 (control_words c.1) c.2 control.0)
-    (line_takes 3 c.0.1 w.0 (window_words w.1) w.2 window.0)
-    (line_takes 4 w.0.1 i.0 (codes "wave" ∷ decimal i.1 ∷ []) i.2 wave.0)
-    (line_takes 5 i.0.1 l.0 (codes "leaders" ∷ decimal l.1 ∷ []) l.2 leaders.0) in
-    let range : IsHead h = record { timed = control.1; opens_before_end = window.1; ends_most = window.2; wave_least = wave.1; wave_most = wave.2; leaders_least = leaders.1; leaders_most = leaders.2 } in
-    subst (λ (r : Head × List (List ℕ)). (joined lines ≡ head_text r.0 (joined r.1)) × IsHead r.0) (text_ok_is (h, l.0.1) r l.4) (text, range)
+head_takes place.Version h words r good e =
+    let b = bind_ok (version_in words) (λ version. line_ok (Some (behind_version version), record h { version = version })) r e in
+    let t = version_takes words b.0 b.1 in
+    subst (Takes place.Version h words) (line_ok_is _ r b.2) (version_taken h words b.0 good t.0 t.1)
+head_takes place.Rule h words r good e =
+    let b = bind_ok (number_in (codes "rule") 1 2 words) (λ rule. line_ok (some place.Control, record h { rule = rule })) r e in
+    let t = number_takes (codes "rule") 1 2 words b.0 b.1 in
+    subst (Takes place.Rule h words) (line_ok_is _ r b.2) (ap (λ (v : ℕ). version_lines v b.0) good ∙ ap (λ (l : List (List ℕ)). (codes "arena" ∷ codes "2" ∷ []) ∷ l ∷ []) (sym t.0), Two good t.1 t.2)
+head_takes place.Control h words r good e =
+    let b = bind_ok (control_in words) (λ control. line_ok (some place.Window, record h { control = control })) r e in
+    let t = control_takes words b.0 b.1 in
+    subst (Takes place.Control h words) (line_ok_is _ r b.2) (ap (λ (l : List (List ℕ)). version_lines h.version h.rule ++ l ∷ []) (sym t.0), (same_version h _ good refl refl, t.1))
+head_takes place.Window h words r good e =
+    let b = bind_ok (window_in words) (λ (w : ℕ × ℕ). line_ok (some place.Wave, record h { starts = w.0; ends = w.1 })) r e in
+    let t = window_takes words b.0 b.1 in
+    subst (Takes place.Window h words) (line_ok_is _ r b.2) (one_behind (version_lines h.version h.rule) (control_words h.control ∷ []) words (window_words b.0.0 b.0.1) t.0, (same_version h _ good.0 refl refl, good.1, t.1, t.2))
+head_takes place.Wave h words r good e =
+    let b = bind_ok (number_in (codes "wave") 100 600000 words) (λ wave. line_ok (some place.Leaders, record h { wave_ms = wave })) r e in
+    let t = number_takes (codes "wave") 100 600000 words b.0 b.1 in
+    subst (Takes place.Wave h words) (line_ok_is _ r b.2) (one_behind (version_lines h.version h.rule) (control_words h.control ∷ window_words h.starts h.ends ∷ []) words (number_words (codes "wave") b.0) t.0, (same_version h _ good.0 refl refl, good.1, good.2, good.3, t.1, t.2))
+head_takes place.Leaders h words r good e =
+    let b = bind_ok (number_in (codes "leaders") 1 20 words) (λ leaders. line_ok (no_place, record h { leaders = leaders })) r e in
+    let t = number_takes (codes "leaders") 1 20 words b.0 b.1 in
+    subst (Takes place.Leaders h words) (line_ok_is _ r b.2) (
+      one_behind (version_lines h.version h.rule) (control_words h.control ∷ window_words h.starts h.ends ∷ number_words (codes "wave") h.wave_ms ∷ []) words (number_words (codes "leaders") b.0) t.0,
+      record { version = same_version h _ good.0 refl refl; timed = good.1; opens_before_end = good.2; ends_most = good.3; wave_least = good.4; wave_most = good.5; leaders_least = t.1; leaders_most = t.2 },
+    )

@@ -1,11 +1,11 @@
 -- How a text falls into lines, and a line into words.
-use Rattle.std.proofs.Common.{◌≡◌, ℕ, ◌+◌, ◌<◌, ◌≤◌, Bool, true, false, cond, eqb, ltb, List, [], ◌∷◌, length, get_or, take, drop, Some, None, refl, sym, ap, subst, ◌∙◌, arith, inl, inr, position, not}
+use Rattle.std.proofs.Common.{◌≡◌, ℕ, ◌+◌, ◌<◌, ◌≤◌, Bool, true, false, cond, eqb, ltb, List, [], ◌∷◌, length, get_or, take, drop, Option, Some, None, is_some, option_map, refl, sym, ap, subst, ◌∙◌, arith, inl, inr, position, not}
 use Rattle.std.specs.List.{onto_first, position_or_len, join_with_byte}
 use Rattle.std.proofs.lemmas.Bool.{cases_Bool, not-true, ltb-true, ltb-false, ne_eqb}
 use Rattle.std.proofs.lemmas.List.{length-append}
 use Rattle.std.proofs.lemmas.List.Sums.{prefix_len_passes}
 use Rattle.std.proofs.lemmas.List.Splits.{slice_split_first, slice_split-cons_yes, slice_split-cons_no, slice_split_none, length-slice_split, join_with_byte-slice_split}
-use Rattle.journal_text.specs.Lines.{parts_of, first, is_end}
+use Rattle.journal_text.specs.Lines.{parts_of, no_words, words_left, first}
 
 -- there is always a first part
 pub parts_of-first : (byte : ℕ) (bytes : List ℕ) → (part : List ℕ) × (parts : List (List ℕ)) × (parts_of byte bytes ≡ part ∷ parts)
@@ -54,14 +54,9 @@ first-parts_of_found byte bytes at found = sym (ap first (parts_of-found byte by
 pub first-parts_of_none : (byte : ℕ) (bytes : List ℕ) → position (λ b. eqb b byte) bytes ≡ None → None ≡ first (parts_of byte bytes)
 first-parts_of_none byte bytes none = sym (ap first (parts_of-none byte bytes none))
 
--- the parts give the bytes back, so nothing is left exactly where there are no bytes
-is_end-joined : (byte : ℕ) (parts : List (List ℕ)) (bytes : List ℕ) → 0 < length parts → join_with_byte byte parts ≡ bytes → is_end parts ≡ eqb (length bytes) 0
-is_end-joined byte [] bytes some e = absurd (omega arith)
-is_end-joined byte (part ∷ []) bytes some e = ap (λ (bs : List ℕ). eqb (length bs) 0) e
-is_end-joined byte (part ∷ after ∷ more) bytes some e = sym (ne_eqb (length bytes) 0 (λ zero. omega (arith, ap length e, length-append part (byte ∷ join_with_byte byte (after ∷ more)))))
-
--- nothing is left of the parts exactly where there are no bytes
-pub is_end-parts_of : (byte : ℕ) (bytes : List ℕ) → is_end (parts_of byte bytes) ≡ eqb (length bytes) 0
-is_end-parts_of byte bytes =
-    let some : 0 < length (parts_of byte bytes) = omega (arith, length-slice_split (λ b. eqb b byte) bytes) in
-    is_end-joined byte (parts_of byte bytes) bytes some (join_with_byte-slice_split byte bytes)
+-- words are left exactly where something of the line is
+pub none_left : {B : Type 0} (f : B → List ℕ) (o : Option B) (none : Bool) → is_some o ≡ not none → none ≡ no_words (words_left (option_map f o))
+none_left f None true e = refl
+none_left f None false e = absurd cc
+none_left f (Some b) true e = absurd cc
+none_left f (Some b) false e = sym (ap no_words (parts_of-first 32 (f b)).2)

@@ -1,8 +1,8 @@
 -- A line that is made of words falls into these words again, and a text of lines into these lines.
-use Rattle.std.proofs.Common.{◌≡◌, ℕ, ◌^◌, ◌<◌, ◌≤◌, true, false, eqb, leb, ltb, ◌&&◌, length, List, [], ◌∷◌, ◌++◌, All, refl, ap, ◌∙◌, append_assoc, arith, Ok, Some}
+use Rattle.std.proofs.Common.{◌≡◌, ℕ, ◌^◌, ◌<◌, ◌≤◌, true, false, eqb, leb, ltb, ◌&&◌, length, List, [], ◌∷◌, ◌++◌, All, map, Option, None, Some, refl, ap, ◌∙◌, append_assoc, arith}
 use Rattle.std.specs.Char.{is_ascii_digit}
 use Rattle.std.specs.Fmt.{decimal}
-use Rattle.std.specs.List.{AllByRecursion, list_all}
+use Rattle.std.specs.List.{AllByRecursion, flat_map, list_all}
 use Rattle.std.specs.Str.{all_ascii_digits}
 use Rattle.std.proofs.lemmas.Bool.{and_parts, ltb-true, ne_eqb}
 use Rattle.std.proofs.lemmas.Bool.Decides.{nat_tests}
@@ -11,9 +11,13 @@ use Rattle.std.proofs.lemmas.List.Sums.{AllPass-from_list_all}
 use Rattle.std.proofs.lemmas.List.Splits.{slice_split_none, slice_split_at}
 use Rattle.decimals.proofs.DecimalLemmas.{all_digits-decimal}
 use Rattle.entries.specs.Names.{is_name_byte, IsName}
-use Rattle.journal_text.specs.Lines.{spaced, line, lines_of, words_of, first}
-use Rattle.journal_text.specs.Reading.{next}
-use Rattle.journal_text.proofs.LineLemmas.{first-cons}
+use Rattle.board.specs.declared.piece.Kind.{Kind}
+use Rattle.board.specs.declared.piece.Kind.TheVariants.{Pawn, Knight, Bishop, Rook, Queen, King}
+use Rattle.board.specs.Moves.{MoveWord}
+use Rattle.board.specs.Words.{square_word, promo_word, move_word, kind_letter}
+use Rattle.entries.specs.declared.journal.Start.{Start}
+use Rattle.journal_text.specs.Lines.{spaced, line, lines_of, words_of}
+use Rattle.journal_text.specs.Text.{pair_word}
 
 -- each byte is above this one
 abbrev pub AllAbove : ℕ → List ℕ → Type 0
@@ -24,7 +28,7 @@ abbrev pub IsWord : List ℕ → Type 0
 IsWord word = AllAbove 32 word
 
 -- none of such bytes is a lower one
-lacks : (byte least : ℕ) (bytes : List ℕ) → byte ≤ least → AllAbove least bytes → All (λ b. eqb b byte ≡ false) bytes
+pub lacks : (byte least : ℕ) (bytes : List ℕ) → byte ≤ least → AllAbove least bytes → All (λ b. eqb b byte ≡ false) bytes
 lacks byte least [] low above = All-nil (λ b. eqb b byte ≡ false)
 lacks byte least (b ∷ bytes) low above = All-cons (λ x. eqb x byte ≡ false) b bytes (ne_eqb b byte (λ same. omega (arith, above.0))) (lacks byte least bytes low above.1)
 
@@ -57,29 +61,25 @@ lines_of-line words rest each =
     ap lines_of (append_assoc (spaced words) (10 ∷ []) rest)
     ∙ slice_split_at (λ b. eqb b 10) (spaced words) 10 rest (lacks 10 31 (spaced words) (omega arith) (AllAbove-spaced words each)) refl
 
--- a line of words is the first part of such a text
-pub first-line : (words : List (List ℕ)) (rest : List ℕ) → AllByRecursion IsWord words → first (lines_of (line words ++ rest)) ≡ Some (spaced words, lines_of rest)
-first-line words rest each = rw (lines_of-line words rest each) (first-cons 10 (spaced words) rest)
-
--- a line of words is the next one of a text that begins with it
-pub next-line : (number : ℕ) (words : List (List ℕ)) (rest : List ℕ) → AllByRecursion IsWord words → next number (lines_of (line words ++ rest)) ≡ Ok (spaced words, lines_of rest)
-next-line number words rest each = rw (lines_of-line words rest each, first-cons 10 (spaced words) rest) refl
-
 -- a word that is known is tested byte by byte
 pub tested_word : (word : List ℕ) → list_all (λ b. ltb 32 b) word ≡ true → IsWord word
 tested_word [] e = tt
 tested_word (b ∷ word) e = let parts = and_parts (ltb 32 b) (list_all (λ b. ltb 32 b) word) e in (ltb-true 32 b parts.0, tested_word word parts.1)
 
--- digits stand above the space
-digits_above : (digits : List ℕ) → all_ascii_digits digits ≡ true → IsWord digits
+-- digits stand above what parts words and pairs
+digits_above : (digits : List ℕ) → all_ascii_digits digits ≡ true → AllAbove 47 digits
 digits_above [] all = tt
 digits_above (digit ∷ digits) all =
     let parts = and_parts (is_ascii_digit digit) (all_ascii_digits digits) all in
     (grind (arith, nat_tests, parts.0), digits_above digits parts.1)
 
+-- a decimal has bytes above `/`
+pub decimal_above : (n : ℕ) → n < 10 ^ 10 → AllAbove 47 (decimal n)
+decimal_above n small = digits_above (decimal n) (all_digits-decimal n small)
+
 -- a decimal is a word
 pub IsWord-decimal : (n : ℕ) → n < 10 ^ 10 → IsWord (decimal n)
-IsWord-decimal n small = digits_above (decimal n) (all_digits-decimal n small)
+IsWord-decimal n small = AllAbove-lower 32 47 (decimal n) (omega arith) (decimal_above n small)
 
 -- what may stand in a name stands above the space
 name_byte_above : (b : ℕ) → is_name_byte b ≡ true → 32 < b
@@ -95,3 +95,41 @@ pub IsWord-name : (name : List ℕ) → IsName name → IsWord name
 IsWord-name name named =
     let parts = and_parts (leb 1 (length name) && leb (length name) 20) (list_all is_name_byte name) named in
     names_above name (recursion_from_All (λ b. is_name_byte b ≡ true) name (AllPass-from_list_all is_name_byte name parts.1))
+
+-- a square is written by bytes above the space
+square_above : (s : ℕ) → IsWord (square_word s)
+square_above s = (omega arith, (omega arith, tt))
+
+-- and so is what a pawn becomes
+promo_above : (promo : Option Kind) → IsWord (promo_word promo)
+promo_above None = tt
+promo_above (Some Pawn) = (omega arith, tt)
+promo_above (Some Knight) = (omega arith, tt)
+promo_above (Some Bishop) = (omega arith, tt)
+promo_above (Some Rook) = (omega arith, tt)
+promo_above (Some Queen) = (omega arith, tt)
+promo_above (Some King) = (omega arith, tt)
+
+-- a move is a word
+pub IsWord-move : (m : MoveWord) → IsWord (move_word m)
+IsWord-move m = AllAbove-append 32 (square_word m.from) (square_word m.to ++ promo_word m.promo) (square_above m.from) (AllAbove-append 32 (square_word m.to) (promo_word m.promo) (square_above m.to) (promo_above m.promo))
+
+-- a pair is a word
+pub IsWord-pair : (g : Start) → g.white < 10 ^ 10 → g.black < 10 ^ 10 → IsWord (pair_word g)
+IsWord-pair g white black = AllAbove-append 32 (decimal g.white) (45 ∷ decimal g.black) (IsWord-decimal g.white white) (omega arith, IsWord-decimal g.black black)
+
+-- one or more words make a line
+abbrev pub IsLine : List (List ℕ) → Type 0
+IsLine [] = ⊥
+IsLine (word ∷ words) = AllByRecursion IsWord (word ∷ words)
+
+-- a line of words falls into these words again
+pub words_of-line : (words : List (List ℕ)) → IsLine words → words_of (spaced words) ≡ words
+words_of-line [] each = absurd each
+words_of-line (word ∷ words) each = words_of-spaced word words each
+
+-- lines of words fall into these lines again, and nothing stands behind the last
+pub lines_of-lines : (ls : List (List (List ℕ))) → AllByRecursion IsLine ls → lines_of (flat_map line ls) ≡ map spaced ls ++ [] ∷ []
+lines_of-lines [] each = refl
+lines_of-lines ([] ∷ ls) each = absurd each.0
+lines_of-lines ((word ∷ words) ∷ ls) each = lines_of-line (word ∷ words) (flat_map line ls) each.0 ∙ ap (λ (parts : List (List ℕ)). spaced (word ∷ words) ∷ parts) (lines_of-lines ls each.1)

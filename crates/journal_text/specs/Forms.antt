@@ -1,21 +1,15 @@
--- What a line says. First a line has one of the forms, then what it says is built, then its values and the count of its
--- kind are in their ranges, and then its name is a new one.
-use Rattle.std.specs.Prelude.{ℕ, ◌*◌, ◌==◌, nat_eq, nat_lt, nat_le, Bool, true, false, ◌&&◌, ◌||◌, not, List, [], ◌∷◌, length, Option, Some, None, is_some, option_and_then, Result, Ok, Err, if◌then◌else◌, codes}
-use Rattle.std.specs.List.{list_any, starts_with}
-use Rattle.std.specs.Option.{option_map_or}
+-- What a line before the entries says. First a line has one of the forms, then what it says is built, then its values and
+-- the count of its kind are in their ranges, and then its name is a new one.
+use Rattle.std.specs.Prelude.{ℕ, ◌*◌, ◌==◌, nat_lt, nat_le, Bool, true, ◌&&◌, ◌||◌, not, List, length, Option, Some, None, option_and_then, Result, Ok, Err, if◌then◌else◌, codes}
+use Rattle.std.specs.List.{list_any}
 use Rattle.std.specs.Str.{bytes_eq}
 use Rattle.decimals.specs.Decimals.{number_of}
 use Rattle.entries.specs.Names.{is_name}
 use Rattle.entries.specs.declared.setup.Control.{Control}
 use Rattle.entries.specs.declared.setup.Player.{Player}
-use Rattle.entries.specs.declared.journal.What.{What}
-use Rattle.entries.specs.declared.journal.What.TheVariants as what
-use Rattle.entries.specs.declared.journal.Entry.{Entry}
-use Rattle.journal_text.specs.declared.entry_lines.Kind.{Kind}
-use Rattle.journal_text.specs.declared.entry_lines.Kind.TheVariants.{Enter, Pause, Leave}
 use Rattle.journal_text.specs.declared.fault.JournalCause.{JournalCause}
-use Rattle.journal_text.specs.declared.fault.JournalCause.TheVariants.{NotBuilt, Form, Range, Repeat}
-use Rattle.journal_text.specs.Lines.{first, two, three, four}
+use Rattle.journal_text.specs.declared.fault.JournalCause.TheVariants.{Form, Range, Repeat}
+use Rattle.journal_text.specs.Lines.{two, three, four}
 
 -- the next step, where this one gave a value
 infixl 10 ◌>>=◌
@@ -52,6 +46,16 @@ is_within least most n = nat_le least n && nat_le n most
 -- the number of such a line, from the least to the most
 unfoldable pub number_in : List ℕ → ℕ → ℕ → List (List ℕ) → Result ℕ JournalCause
 number_in word least most words = formed (number_form word words) (λ n. ranged (is_within least most n) (Ok n))
+
+-- the version of `arena 1` or `arena 2`: no other number makes this form
+unfoldable pub version_form : List (List ℕ) → Option ℕ
+version_form words = do
+  version ← number_form (codes "arena") words
+  if version == 1 || version == 2 then Some version else None
+
+-- the version of its line
+unfoldable pub version_in : List (List ℕ) → Result ℕ JournalCause
+version_in words = formed (version_form words) (λ version. Ok version)
 
 -- `control N N N`
 unfoldable pub control_form : List (List ℕ) → Option (ℕ × ℕ × ℕ)
@@ -133,62 +137,3 @@ player_made p = record { name = p.2; rating = p.0; team = p.1 }
 -- one of at most 1,000 players, of so many teams, behind players with these names
 unfoldable pub player_in : ℕ → List (List ℕ) → List (List ℕ) → Result Player JournalCause
 player_in teams names words = formed (player_form words) (λ p. ranged (player_fits teams p) (enrolled 1000 names p.2 (player_made p)))
-
--- the word of a kind of entry
-unfoldable pub kind_of : List ℕ → Option Kind
-kind_of word =
-    if bytes_eq word (codes "enter") then Some Enter else (
-    if bytes_eq word (codes "pause") then Some Pause else (
-    if bytes_eq word (codes "leave") then Some Leave else None))
-
--- `enter P`, `pause P` or `leave P`
-unfoldable pub what_form : List (List ℕ) → Option (Kind × ℕ)
-what_form words = do
-  w ← two words
-  kind ← kind_of w.0
-  player ← number_of w.1
-  Some (kind, player)
-
--- `STAMP PASS` and what the entry did
-unfoldable pub entry_form : List (List ℕ) → Option (ℕ × ℕ × Kind × ℕ)
-entry_form words = do
-  a ← first words
-  b ← first a.1
-  stamp ← number_of a.0
-  pass ← number_of b.0
-  did ← what_form b.1
-  Some (stamp, pass, did.0, did.1)
-
--- a stamp up to 1,000,000,000, a pass up to 255 and a player of the arena
-abbrev pub entry_fits : ℕ → ℕ × ℕ × Kind × ℕ → Bool
-entry_fits players e = nat_le e.0 1000000000 && nat_le e.1 255 && nat_lt e.3 players
-
--- what an entry of this kind did
-abbrev pub what_made : Kind → ℕ → What
-what_made Enter player = what.Enter player
-what_made Pause player = what.Pause player
-what_made Leave player = what.Leave player
-
--- the entry with this stamp and pass, and what it did
-abbrev pub entry_made : ℕ × ℕ × Kind × ℕ → Entry
-entry_made e = record { stamp = e.0; pass = e.1; what = what_made e.2 e.3 }
-
--- the word begins with `act`, `tick` or `wave`
-abbrev pub begins_unbuilt : List ℕ → Bool
-begins_unbuilt word = starts_with nat_eq word (codes "act") || starts_with nat_eq word (codes "tick") || starts_with nat_eq word (codes "wave")
-
--- the first three words of a line that has as many
-abbrev pub beginning : List (List ℕ) → Option (List ℕ × List ℕ × List ℕ)
-beginning [] = None
-beginning (word ∷ []) = None
-beginning (word ∷ next ∷ []) = None
-beginning (word ∷ next ∷ third ∷ more) = Some (word, next, third)
-
--- `STAMP PASS` and the word of a kind of entry that is not built, and anything behind it
-unfoldable pub is_unbuilt : List (List ℕ) → Bool
-is_unbuilt words = option_map_or (λ (w : List ℕ × List ℕ × List ℕ). is_some (number_of w.0) && is_some (number_of w.1) && begins_unbuilt w.2) (beginning words) false
-
--- one of at most 8,000,000 entries, of so many players, behind so many entries
-unfoldable pub entry_in : ℕ → ℕ → List (List ℕ) → Result Entry JournalCause
-entry_in players entries words =
-    if is_unbuilt words then Err NotBuilt else formed (entry_form words) (λ e. ranged (entry_fits players e && nat_lt entries 8000000) (Ok (entry_made e)))

@@ -1,6 +1,7 @@
 pub mod Lines
 pub mod Text
 pub mod Forms
-pub mod Faults
-pub mod Beginnings
+pub mod EntryForms
 pub mod Reading
+pub mod Beginnings
+pub mod Writing

@@ -1,169 +1,160 @@
 //! The lines of a journal's entries.
 
-ghost use Rattle.std.specs.Prelude.{◌≡◌, ◌∷◌, ◌<◌, ◌≤◌, [], ℕ, List, IfOk, option_map, vec_len};
+ghost use Rattle.std.specs.Prelude.{◌≡◌, ◌+◌, ◌<◌, ◌≤◌, ◌^◌, [], IfOk, IsTrue, Ok, length};
 ghost use Rattle.journal_text.specs.Lines.{lines_of, words_of};
-ghost use Rattle.journal_text.specs.Forms.{kind_of, what_form, entry_form, entry_fits, what_made, begins_unbuilt, beginning, is_unbuilt, entry_in};
-ghost use Rattle.journal_text.specs.Reading.{Gives, entries_in};
+ghost use Rattle.journal_text.specs.EntryForms.{deed_fits, pair_in, pairs_fit, entry_fits, what_made, entry_made, entry_in, no_entries};
+ghost use Rattle.journal_text.specs.Reading.{InEntries, Behind, Shows, GoesOn, at_line, journal_made, record_in, run};
 
-use crate::fault::{JournalCause, ReadJournalFault, at_line};
-use crate::lines::{cut, next_line, two_words};
-use entries::{Entry, MAX_ENTRIES, MAX_STAMP, What};
+use crate::entry_form::{Deed, Said, entry_form, pair_form};
+use crate::fault::{JournalCause, ReadJournalFault, fault_at};
+use crate::head::Head;
+use crate::lines::{is_word, next_line};
+use crate::record::Record;
+use crate::words::Words;
+use conn::Text;
+use entries::{Entry, MAX_ENTRIES, MAX_GAMES, MAX_STAMP, Player, What};
 use std::alloc::Global;
 
-/// The kinds of entry.
-#[derive(Clone, Copy, Debug, PartialEq, Eq)]
-enum Kind {
-    Enter,
-    Pause,
-    Leave,
-}
-
-/// The kind of this word.
-#[tactic(auto, unfolding(crate::specs::Forms::kind_of))]
-fn kind_of(word: &[u8]) -> Option<Kind>
-    ensures { result ≡ kind_of word.now }
+/// Whether the numbers of what an entry did are in their ranges, where there are so many players.
+fn deed_fits(players: u32, deed: &Deed) -> bool
+    ensures { result ≡ deed_fits players deed.now }
 {
-    if word == b"enter".as_slice() {
-        return Some(Kind::Enter);
-    }
-    if word == b"pause".as_slice() {
-        return Some(Kind::Pause);
-    }
-    if word == b"leave".as_slice() {
-        return Some(Kind::Leave);
-    }
-    None
-}
-
-/// What an entry did, and to which player, whatever the number.
-#[tactic(auto, unfolding(crate::specs::Forms::what_form))]
-fn what_form(words: &[u8]) -> Option<(Kind, u64)>
-    ensures { result ≡ what_form (words_of words.now) }
-{
-    let (kind, player) = two_words(words)?;
-    let kind = kind_of(kind)?;
-    let player = decimals::read(player)?;
-    Some((kind, player))
-}
-
-/// An entry's stamp, pass, kind and player, whatever their ranges.
-#[tactic(auto, unfolding(crate::specs::Forms::entry_form))]
-fn entry_form(line: &[u8]) -> Option<(u64, u64, Kind, u64)>
-    ensures { result ≡ entry_form (words_of line.now) }
-{
-    let (stamp, rest) = cut(line, b' ')?;
-    let (pass, rest) = cut(rest, b' ')?;
-    let stamp = decimals::read(stamp)?;
-    let pass = decimals::read(pass)?;
-    let (kind, player) = what_form(rest)?;
-    Some((stamp, pass, kind, player))
-}
-
-/// Whether an entry's values are in their ranges, where there are so many players.
-fn entry_fits(players: u32, stamp: u64, pass: u64, kind: Kind, player: u64) -> bool
-    ensures { result ≡ entry_fits players (stamp, pass, kind, player) }
-{
-    stamp <= MAX_STAMP && pass <= 255 && player < u64::from(players)
-}
-
-/// What the entry did.
-fn what_made(kind: Kind, player: u32) -> What
-    ensures { result ≡ what_made kind player }
-{
-    match kind {
-        Kind::Enter => What::Enter(player),
-        Kind::Pause => What::Pause(player),
-        Kind::Leave => What::Leave(player),
-    }
-}
-
-/// The first word of a line, or all of it where it has just one.
-fn front(line: &[u8]) -> &[u8]
-    ensures { (others : List (List ℕ)) × (words_of line.now ≡ result.now ∷ others) }
-{
-    match cut(line, b' ') {
-        None => line,
-        Some((word, _)) => word,
-    }
-}
-
-/// The first three words of a line that has as many.
-fn beginning(line: &[u8]) -> Option<(&[u8], &[u8], &[u8])>
-    ensures { option_map (λ w. (w.0.now, w.1.now, w.2.now)) result ≡ beginning (words_of line.now) }
-{
-    let (first, rest) = cut(line, b' ')?;
-    let (second, rest) = cut(rest, b' ')?;
-    let third = front(rest);
-    Some((first, second, third))
-}
-
-/// Whether the word begins as that of a kind of entry that is not built.
-fn begins_unbuilt(word: &[u8]) -> bool
-    ensures { result ≡ begins_unbuilt word.now }
-{
-    word.starts_with(b"act") || word.starts_with(b"tick") || word.starts_with(b"wave")
-}
-
-/// Whether the line has the form of an entry of such a kind.
-#[tactic(auto, unfolding(crate::specs::Forms::is_unbuilt))]
-fn is_unbuilt(line: &[u8]) -> bool
-    ensures { result ≡ is_unbuilt (words_of line.now) }
-{
-    match beginning(line) {
-        None => false,
-        Some((stamp, pass, kind)) => {
-            decimals::read(stamp).is_some()
-                && decimals::read(pass).is_some()
-                && begins_unbuilt(kind)
+    match deed {
+        Deed::Enter(player) | Deed::Pause(player) | Deed::Leave(player) => {
+            *player < u64::from(players)
         }
+        Deed::Act(player, game, _) => {
+            *player < u64::from(players) && *game < u64::from(MAX_GAMES)
+        }
+        Deed::Tick => true,
+        Deed::Wave(n) => *n <= MAX_ENTRIES,
     }
 }
 
-/// The entry of its line, of so many players and behind so many entries.
-#[tactic(auto, unfolding(crate::specs::Forms::entry_in))]
-fn entry(players: u32, entries: usize, line: &[u8]) -> Result<Entry, JournalCause>
-    ensures is { result ≡ entry_in players entries (words_of line.now) }
+/// What an entry did, whose numbers are in their ranges.
+fn what_made(players: u32, deed: Deed) -> What
+    requires { IsTrue (deed_fits players deed) }
+    ensures { result ≡ what_made deed }
+{
+    match deed {
+        Deed::Enter(player) => What::Enter(player as u32),
+        Deed::Pause(player) => What::Pause(player as u32),
+        Deed::Leave(player) => What::Leave(player as u32),
+        Deed::Act(player, game, did) => What::Act(player as u32, game as u32, did),
+        Deed::Tick => What::Tick,
+        Deed::Wave(n) => What::Wave(n),
+    }
+}
+
+/// The two players of a word `W-B`, where they are two of so many.
+pub(crate) fn pair_in(players: u32, word: &[u8]) -> Option<(u32, u32)>
+    ensures { result ≡ pair_in players word.now }
+{
+    let (white, black) = pair_form(word)?;
+    if white < u64::from(players) && black < u64::from(players) {
+        Some((white as u32, black as u32))
+    } else {
+        None
+    }
+}
+
+/// Whether there are at most 500 pairs, all of so many players.
+fn pairs_fit(players: u32, words: &Words) -> bool
+    ensures { result ≡ pairs_fit players words.now }
+{
+    let mut left = words.again();
+    let mut count = 0usize;
+    'words: while let Some(word) = left.next() {
+        if count == 500 || pair_in(players, word).is_none() {
+            return false;
+        }
+        count += 1;
+    }
+    true
+}
+
+/// Whether an entry's values are in their ranges, where there are so many players and entries before it.
+fn entry_fits(players: u32, entries: usize, said: &Said, words: &Words) -> bool
+    ensures { result ≡ entry_fits players entries (said.now, words.now) }
+{
+    said.stamp <= MAX_STAMP
+        && said.pass <= 255
+        && deed_fits(players, &said.deed)
+        && pairs_fit(players, words)
+        && (entries as u64) < MAX_ENTRIES
+}
+
+/// Takes the entry of its line, of so many players and behind so many entries, and leaves the pairs that it lists.
+#[tactic(auto, unfolding(crate::specs::EntryForms::entry_in))]
+fn entry(
+    version: u32,
+    players: u32,
+    entries: usize,
+    words: &mut Words,
+) -> Result<Entry, JournalCause>
+    ensures is { Shows (λ e. (e, words.new)) result (entry_in version players entries words.old) }
     ensures room { IfOk result (λ _. entries < 8000000) }
 {
-    if is_unbuilt(line) {
-        return Err(JournalCause::NotBuilt);
-    }
-    let (stamp, pass, kind, player) = entry_form(line).ok_or(JournalCause::Form)?;
-    if entry_fits(players, stamp, pass, kind, player) && (entries as u64) < MAX_ENTRIES {
+    let said = entry_form(version, words).ok_or(JournalCause::Form)?;
+    if entry_fits(players, entries, &said, words) {
         Ok(Entry {
-            stamp,
-            pass: pass as u32,
-            what: what_made(kind, player as u32),
+            stamp: said.stamp,
+            pass: said.pass as u32,
+            what: what_made(players, said.deed),
         })
     } else {
         Err(JournalCause::Range)
     }
 }
 
-/// The entries, of so many teams and players, up to `end`, and the text behind it.
-#[tactic(auto, using(crate::proofs::Steps::entries_step))]
-pub(crate) fn entries_of(
-    alloc: Global,
-    teams: u32,
+/// Puts the entry of its line, which has this number, behind the others.
+fn read_entry(
+    record: &mut Record,
+    version: u32,
     players: u32,
-    text: &[u8],
-) -> Result<(Vec<Entry>, &[u8]), ReadJournalFault>
-    requires few { teams ≤ 100 }
-    requires fitting { players ≤ 1000 }
-    ensures read { Gives (λ read. (read.0.items, lines_of read.1.now)) result (entries_in teams players [] (lines_of text.now)) }
-    ensures most { IfOk result (λ read. vec_len read.0 ≤ 8000000) }
+    number: u64,
+    line: &[u8],
+) -> Result<(), ReadJournalFault>
+    ensures { GoesOn (λ _. Ok «record».new) result
+        (at_line number (record_in version players «record».old (words_of line.now))) }
 {
-    let first = 7 + u64::from(teams) + u64::from(players);
-    let mut entries = Vec::new(alloc);
+    let mut words = Words::of(line);
+    match entry(version, players, record.len(), &mut words) {
+        Ok(entry) => {
+            record.put(players, &entry, &words)?;
+            Ok(())
+        }
+        Err(cause) => Err(fault_at(number, cause).into()),
+    }
+}
+
+/// The entries and the games that they list up to `end`, behind this head, these teams and these players, the number of the
+/// line behind it, and the text from there on.
+#[tactic(auto, using(crate::proofs::Steps::entries_step), unfolding(crate::specs::Reading::step))]
+pub(crate) fn entries_of<'a>(
+    alloc: Global,
+    head: &Head,
+    teams: &[Text],
+    players: &[Player],
+    first: u64,
+    text: &'a [u8],
+) -> Result<(Record, u64, &'a [u8]), ReadJournalFault>
+    requires few { length players.now ≤ 1000 }
+    requires placed { first + length text.now ≤ 2 ^ 63 }
+    ensures { GoesOn (λ r. run (Behind (journal_made head.now teams.now players.now r.0)) r.1 (lines_of r.2.now)) result
+        (run (InEntries head.now teams.now players.now no_entries) first (lines_of text.now)) }
+{
+    let count = players.len() as u32;
+    let mut record = Record::new(alloc);
+    let mut number = first;
     let mut rest = text;
     'lines: loop {
-        let number = first + entries.len() as u64;
         let (line, after) = next_line(rest, number)?;
-        rest = after;
-        if line == b"end".as_slice() {
-            return Ok((entries, rest));
+        if is_word(line, b"end") {
+            return Ok((record, number + 1, after));
         }
-        let entry = at_line(number, entry(players, entries.len(), line))?;
-        entries.push(entry)?;
+        read_entry(&mut record, head.version, count, number, line)?;
+        number += 1;
+        rest = after;
     }
 }

@@ -13,10 +13,8 @@ pub enum JournalCause {
     Ended,
     /// The line is in no form that its place allows. The whole line's form comes before the range of any number in it.
     Form,
-    /// The line has the form of a kind of entry that is not built yet: two canonical decimals, then `act`, `tick` or `wave`,
-    /// and anything behind.
-    NotBuilt,
-    /// A number of the line is out of its range, or the line is one more of its kind than a journal has.
+    /// A number of the line is out of its range, the line is one more of its kind than a journal has, or it lists more than
+    /// 500 games.
     Range,
     /// The name of the team, or of the player, stood on a line of a team, or of a player, before.
     Repeat,

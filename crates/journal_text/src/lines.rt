@@ -1,7 +1,7 @@
 //! A text cut into lines, and a line into words.
 
 ghost use Rattle.std.specs.Prelude.{◌≡◌, ◌<◌, ◌==◌, ◌∷◌, [], length, position, IfOk, IfSome, MatchOption, option_map};
-ghost use Rattle.journal_text.specs.Lines.{parts_of, lines_of, words_of, first, one, two, three, four};
+ghost use Rattle.journal_text.specs.Lines.{parts_of, lines_of, words_of, first, one, is_word, two, three, four};
 ghost use Rattle.journal_text.specs.Reading.{Shows, next};
 
 use crate::fault::{JournalCause, JournalFault, fault_at};
@@ -25,23 +25,30 @@ pub(crate) fn cut(bytes: &[u8], byte: u8) -> Option<(&[u8], &[u8])>
     Some((&bytes[..at], &bytes[at + 1..]))
 }
 
-/// The word of a line that has just one.
-fn one_word(line: &[u8]) -> Option<&[u8]>
-    ensures { option_map (λ w. w.now) result ≡ one (words_of line.now) }
+/// The part of bytes that have just one.
+fn one_part(bytes: &[u8], byte: u8) -> Option<&[u8]>
+    ensures { option_map (λ w. w.now) result ≡ one (parts_of byte bytes.now) }
 {
-    match cut(line, b' ') {
-        None => Some(line),
+    match cut(bytes, byte) {
+        None => Some(bytes),
         Some(_) => None,
     }
+}
+
+/// The parts of bytes that have two.
+pub(crate) fn two_parts(bytes: &[u8], byte: u8) -> Option<(&[u8], &[u8])>
+    ensures { option_map (λ w. (w.0.now, w.1.now)) result ≡ two (parts_of byte bytes.now) }
+{
+    let (first, rest) = cut(bytes, byte)?;
+    let second = one_part(rest, byte)?;
+    Some((first, second))
 }
 
 /// The words of a line that has two.
 pub(crate) fn two_words(line: &[u8]) -> Option<(&[u8], &[u8])>
     ensures { option_map (λ w. (w.0.now, w.1.now)) result ≡ two (words_of line.now) }
 {
-    let (first, rest) = cut(line, b' ')?;
-    let second = one_word(rest)?;
-    Some((first, second))
+    two_parts(line, b' ')
 }
 
 /// The words of a line that has three.
@@ -60,6 +67,16 @@ pub(crate) fn four_words(line: &[u8]) -> Option<(&[u8], &[u8], &[u8], &[u8])>
     let (first, rest) = cut(line, b' ')?;
     let (second, third, fourth) = three_words(rest)?;
     Some((first, second, third, fourth))
+}
+
+/// Whether the line has just one word, and it is this one.
+pub(crate) fn is_word(line: &[u8], key: &[u8]) -> bool
+    ensures { result ≡ is_word key.now (words_of line.now) }
+{
+    match cut(line, b' ') {
+        None => line == key,
+        Some(_) => false,
+    }
 }
 
 /// The next line, which has this number, and the text behind it.

@@ -1,26 +1,25 @@
-ghost use Rattle.std.specs.Prelude.{◌≡◌, ◌-◌, ℕ, List, IfOk, IfErr, OnOk, MatchResult, MatchOption, Some, None, slice_get};
-ghost use Rattle.entries.specs.Ranges.{IsWritable};
+ghost use Rattle.std.specs.Prelude.{◌≡◌, ◌-◌, ◌++◌, ℕ, List, IfOk, IfErr, OnOk, MatchResult, MatchOption, Some, None, map, slice_get};
+ghost use Rattle.entries.specs.Ranges.{IsWritable, listed_at};
 ghost use Rattle.entries.specs.declared.journal.Entry.{Entry};
 ghost use Rattle.entries.specs.declared.journal.Journal.{Journal};
 ghost use Rattle.journal_text.specs.declared.fault.JournalFault.{JournalFault};
-ghost use Rattle.journal_text.specs.Lines.{spaced, lines_of, is_end};
-ghost use Rattle.journal_text.specs.Text.{Spells, text_of, entry_words, line_of_entry};
+ghost use Rattle.journal_text.specs.Lines.{spaced, lines_of};
+ghost use Rattle.journal_text.specs.Text.{Spells, text_of, entry_words, pair_word, line_of_entry};
 ghost use Rattle.journal_text.specs.Beginnings.{IsFirst};
-ghost use Rattle.journal_text.specs.Faults.{fault_of, IsFault};
-ghost use Rattle.journal_text.specs.Reading.{Gives, journal_in};
+ghost use Rattle.journal_text.specs.Reading.{GoesOn, IsFault, fault_of, journal_in};
 
 use crate::entry_lines::entries_of;
 use crate::fault::{JournalCause, ReadJournalFault, fault_at};
 use crate::head::head_of;
-use crate::players::players_of;
-use crate::teams::teams_of;
+use crate::names::names_of;
 use conn::List;
 use entries::{Journal, Setup};
 use std::alloc::Global;
 
-/// The journal whose text the bytes are: a good setup, and entries in range of the kinds that are built. `Bad` comes
-/// exactly where they are the text of no journal, unless memory runs out first, and names the first line that cannot
-/// stand and the first cause that holds of it.
+/// The journal whose text the bytes are, of version 1 or 2: a good setup, entries in range, and in version 2 the games that
+/// each wave started. `Bad` comes exactly where they are the text of no journal, unless memory runs out first, and names the
+/// first line that cannot stand and the first cause that holds of it. The cost is that of looking at each byte, and of
+/// comparing each player's name with those before.
 pub fn read_journal(alloc: Global, bytes: &[u8]) -> Result<Journal, ReadJournalFault>
     // What is read has this text, byte for byte.
     ensures read { IfOk result (Spells bytes.now) }
@@ -52,33 +51,25 @@ pub fn first_that_cannot_stand()
     ensures { (text : List ℕ) (fault : JournalFault) → fault_of text ≡ Some fault → IsFirst text fault }
 {}
 
-/// The line of an entry stands in a journal's text where `line_of_entry` says, lines counting from 1.
+/// The line of an entry, with the games that it lists, stands in a journal's text where `line_of_entry` says, lines counting
+/// from 1.
 pub fn place_of_entry()
     ensures { (j : Journal) (place : ℕ) (e : Entry) → IsWritable j → slice_get j.entries place ≡ Some e
-        → slice_get (lines_of (text_of j)) (line_of_entry j.setup place - 1) ≡ Some (spaced (entry_words e)) }
+        → slice_get (lines_of (text_of j)) (line_of_entry j place - 1) ≡ Some (spaced (entry_words e ++ map pair_word (listed_at place j.starts))) }
 {}
 
-/// Whether nothing stands behind the last line.
-fn is_end(text: &[u8]) -> bool
-    ensures { result ≡ is_end (lines_of text.now) }
-{
-    text.is_empty()
-}
-
 /// The journal of the whole text.
-#[tactic(auto, unfolding(crate::specs::Reading::journal_in))]
+#[tactic(auto, using(crate::proofs::Steps::behind_run))]
 fn journal_of(alloc: Global, text: &[u8]) -> Result<Journal, ReadJournalFault>
-    ensures { Gives (λ journal. journal) result (journal_in text.now) }
+    ensures { GoesOn (λ journal. Ok journal) result (journal_in text.now) }
 {
-    let (head, rest) = head_of(text)?;
-    let (teams, rest) = teams_of(alloc, rest)?;
-    let few = teams.len() as u32;
-    let (players, rest) = players_of(alloc, few, rest)?;
-    let (entries, rest) = entries_of(alloc, few, players.len() as u32, rest)?;
-    if !is_end(rest) {
-        let line = 8 + u64::from(few) + players.len() as u64 + entries.len() as u64;
-        return Err(fault_at(line, JournalCause::After).into());
+    let (head, number, rest) = head_of(text)?;
+    let (teams, players, number, rest) = names_of(alloc, &head, number, rest)?;
+    let (record, number, rest) = entries_of(alloc, &head, &teams, &players, number, rest)?;
+    if !rest.is_empty() {
+        return Err(fault_at(number, JournalCause::After).into());
     }
+    let (entries, starts) = record.into_lists();
     Ok(Journal {
         setup: Setup {
             control: head.control,
@@ -86,9 +77,12 @@ fn journal_of(alloc: Global, text: &[u8]) -> Result<Journal, ReadJournalFault>
             ends: head.ends,
             wave_ms: head.wave_ms,
             leaders: head.leaders,
+            rule: head.rule,
             teams: List::of(teams),
             players: List::of(players),
         },
-        entries: List::of(entries),
+        version: head.version,
+        entries,
+        starts,
     })
 }

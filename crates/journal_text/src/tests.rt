@@ -1,9 +1,11 @@
 use super::*;
-use entries::{Control, Entry, What};
+use board::read_move;
+use entries::{Action, Control, Entry, Start, What};
 use std::alloc::{AllocError, Global};
 use std::fmt::Write;
-use std::process::Abort;
 use std::test::Fail;
+
+mod faults;
 
 /// Three players, of whom the first and the third enter.
 const EVENING: &str =
@@ -12,6 +14,14 @@ const EVENING: &str =
 /// Two teams and three players, one of them in no team, who enter, pause and leave.
 const BATTLE: &str =
     "arena 1\ncontrol 0 180 300000\nwindow 899999999 900000000\nwave 600000\nleaders 20\nteam Red\nteam Blue\nplayer 400 1 Red\nplayer 4000 0 b_B-9\nplayer 2100 - carol\nbegin\n0 0 enter 0\n0 255 enter 2\n7 1 pause 2\n1000000000 3 leave 0\nend\n";
+
+/// Each kind of entry and each action, in version 1.
+const GAMES: &str =
+    "arena 1\ncontrol 180 2 20000\nwindow 0 3600000\nwave 5000\nleaders 1\nplayer 2000 - alice\nplayer 1900 - bob\nbegin\n0 0 enter 0\n0 0 enter 1\n1000 0 wave 2\n1000 0 act 0 0 berserk\n2000 0 act 0 0 move e2e4\n2000 0 act 1 0 offer\n2001 0 act 0 0 decline\n2002 0 act 1 199999 move a7a8q\n2003 0 act 1 0 claim\n2004 0 act 1 0 accept\n3000 0 tick\n3000 255 act 0 0 resign\n4000 1 wave 8000000\nend\n";
+
+/// Version 2, under the second pairing rule, with two waves.
+const LISTED: &str =
+    "arena 2\nrule 2\ncontrol 180 2 20000\nwindow 0 3600000\nwave 5000\nleaders 1\nplayer 2000 - a\nplayer 1990 - b\nplayer 1980 - c\nplayer 1970 - d\nbegin\n0 0 enter 0\n0 0 wave 3 1-2 3-0\n1000 0 act 1 0 resign\n2000 0 wave 5 0-0\nend\n";
 
 /// The text with the first such part changed.
 fn changed(alloc: Global, text: &str, old: &str, new: &str) -> Result<String, AllocError> {
@@ -73,26 +83,6 @@ fn an_evening_is_read(rt: HostRuntime) -> Result<(), Fail> {
 }
 
 #[test]
-fn the_faults_of_an_evening_have_their_places(rt: HostRuntime) -> Result<(), Fail> {
-    let zero = changed(rt.alloc(), EVENING, "player 2000", "player 02000")?;
-    assert_eq!(rt;
-        refusal(rt.alloc(), zero.as_bytes()),
-        Some((6, JournalCause::Form))
-    );
-    let no_end = changed(rt.alloc(), EVENING, "end\n", "")?;
-    assert_eq!(rt;
-        refusal(rt.alloc(), no_end.as_bytes()),
-        Some((12, JournalCause::Ended))
-    );
-    let one_more = changed(rt.alloc(), EVENING, "end\n", "end\n.")?;
-    assert_eq!(rt;
-        refusal(rt.alloc(), one_more.as_bytes()),
-        Some((13, JournalCause::After))
-    );
-    Ok(())
-}
-
-#[test]
 fn values_at_the_ends_of_their_ranges_are_read(rt: HostRuntime) -> Result<(), Fail> {
     let cases = [
         ("control 180 2 20000", "control 10800 0 1000"),
@@ -119,213 +109,104 @@ fn values_at_the_ends_of_their_ranges_are_read(rt: HostRuntime) -> Result<(), Fa
     Ok(())
 }
 
-/// Checks that the text with each of these parts changed has the fault beside it.
-fn check_faults(
-    rt: &impl Abort,
-    alloc: Global,
-    text: &str,
-    cases: &[(&str, &str, u64, JournalCause)],
-) -> Result<(), Fail> {
-    for (old, new, line, cause) in cases {
-        let text = changed(alloc, text, old, new)?;
-        assert_eq!(rt;
-            refusal(alloc, text.as_bytes()),
-            Some((*line, *cause)),
-            "{new}"
-        );
-    }
-    Ok(())
-}
-
-#[test]
-fn lines_without_their_form_are_told_apart(rt: HostRuntime) -> Result<(), Fail> {
-    let cases = [
-        ("arena 1", "arena 2", 1, JournalCause::Form),
-        ("arena 1", "arena 3", 1, JournalCause::Form),
-        ("arena 1\n", "", 1, JournalCause::Form),
-        ("arena 1\n", "arena 1\r\n", 1, JournalCause::Form),
-        ("arena 1", "0 0 tick\narena 1", 1, JournalCause::Form),
-        ("control 0", "control  0", 2, JournalCause::Form),
-        ("180 300000", "180 300000 ", 2, JournalCause::Form),
-        ("180 300000", "180", 2, JournalCause::Form),
-        ("window 8", "window +8", 3, JournalCause::Form),
-        ("wave 600000", "waves 600000", 4, JournalCause::Form),
-        (
-            "leaders 20",
-            "leaders 18446744073709551617",
-            5,
-            JournalCause::Form,
-        ),
-        ("team Red", "team Re.d", 6, JournalCause::Form),
-        ("team Red", "team ", 6, JournalCause::Form),
-        ("team Red", "teams Red", 6, JournalCause::Form),
-        (
-            "team Red",
-            "team abcdefghijklmnopqrstu",
-            6,
-            JournalCause::Form,
-        ),
-        ("400 1 Red", "400 1 ", 8, JournalCause::Form),
-        ("400 1 Red", "400 01 Red", 8, JournalCause::Form),
-        (
-            "400 1 Red",
-            "400 1 abcdefghijklmnopqrstu",
-            8,
-            JournalCause::Form,
-        ),
-        (
-            "player 4000",
-            "team Green\nplayer 4000",
-            9,
-            JournalCause::Form,
-        ),
-        (
-            "player 400 1 Red\nplayer 4000 0 b_B-9\nplayer 2100 - carol\n",
-            "",
-            8,
-            JournalCause::Form,
-        ),
-        ("begin\n", "", 11, JournalCause::Form),
-        ("begin", "begin ", 11, JournalCause::Form),
-        ("0 0 enter 0", "0 0 enter", 12, JournalCause::Form),
-        ("0 0 enter 0", "0 0 Enter 0", 12, JournalCause::Form),
-        ("0 0 enter 0", "", 12, JournalCause::Form),
-        ("7 1 pause 2", "7 1 pausing 2", 14, JournalCause::Form),
-        ("7 1 pause 2", "7 1 pause -1", 14, JournalCause::Form),
-        ("7 1 pause 2", "07 1 tick", 14, JournalCause::Form),
-        ("7 1 pause 2", "7  1 tick", 14, JournalCause::Form),
-        ("7 1 pause 2", "7 tick", 14, JournalCause::Form),
-        ("end", "ends", 16, JournalCause::Form),
-        // The form of a whole line is looked at before any number of it.
-        ("0 180 300000", "10801 x 300000", 2, JournalCause::Form),
-        ("400 1 Red", "399 9 Re.d", 8, JournalCause::Form),
-        ("7 1 pause 2", "7 256 pause x", 14, JournalCause::Form),
-    ];
-    check_faults(&rt, rt.alloc(), BATTLE, &cases)
-}
-
-#[test]
-fn numbers_out_of_range_are_told_apart(rt: HostRuntime) -> Result<(), Fail> {
-    let cases = [
-        ("0 180 300000", "10801 180 300000", 2, JournalCause::Range),
-        (
-            "0 180 300000",
-            "9999999999 180 300000",
-            2,
-            JournalCause::Range,
-        ),
-        ("0 180 300000", "0 181 300000", 2, JournalCause::Range),
-        ("0 180 300000", "0 0 300000", 2, JournalCause::Range),
-        ("0 180 300000", "0 180 999", 2, JournalCause::Range),
-        ("0 180 300000", "0 180 300001", 2, JournalCause::Range),
-        (
-            "window 899999999",
-            "window 900000000",
-            3,
-            JournalCause::Range,
-        ),
-        (
-            "899999999 900000000",
-            "899999999 900000001",
-            3,
-            JournalCause::Range,
-        ),
-        ("wave 600000", "wave 99", 4, JournalCause::Range),
-        ("wave 600000", "wave 600001", 4, JournalCause::Range),
-        ("leaders 20", "leaders 0", 5, JournalCause::Range),
-        ("leaders 20", "leaders 21", 5, JournalCause::Range),
-        ("400 1 Red", "399 1 Red", 8, JournalCause::Range),
-        ("400 1 Red", "4001 1 Red", 8, JournalCause::Range),
-        ("400 1 Red", "400 2 Red", 8, JournalCause::Range),
-        ("0 0 enter 0", "0 0 enter 3", 12, JournalCause::Range),
-        ("7 1 pause 2", "7 256 pause 2", 14, JournalCause::Range),
-        (
-            "1000000000 3 leave 0",
-            "1000000001 3 leave 0",
-            15,
-            JournalCause::Range,
-        ),
-        // A number is looked at before a name.
-        ("4000 0 b_B-9", "4000 2 Red", 9, JournalCause::Range),
-    ];
-    check_faults(&rt, rt.alloc(), BATTLE, &cases)
-}
-
-#[test]
-fn other_faults_are_told_apart(rt: HostRuntime) -> Result<(), Fail> {
-    let cases = [
-        ("team Blue", "team Red", 7, JournalCause::Repeat),
-        ("0 b_B-9", "0 Red", 9, JournalCause::Repeat),
-        ("carol", "b_B-9", 10, JournalCause::Repeat),
-        (
-            "7 1 pause 2",
-            "7 1 act 0 2 move e2e4",
-            14,
-            JournalCause::NotBuilt,
-        ),
-        ("7 1 pause 2", "7 1 tick", 14, JournalCause::NotBuilt),
-        ("7 1 pause 2", "7 1 tickle", 14, JournalCause::NotBuilt),
-        ("7 1 pause 2", "7 1 wave 1", 14, JournalCause::NotBuilt),
-        (
-            "7 1 pause 2",
-            "9999999999 9999999999 actor",
-            14,
-            JournalCause::NotBuilt,
-        ),
-        (BATTLE, "", 1, JournalCause::Ended),
-        ("end\n", "", 16, JournalCause::Ended),
-        ("end\n", "9 9 tick", 16, JournalCause::Ended),
-        ("end\n", "end\nend\n", 17, JournalCause::After),
-        ("end\n", "end\n\n", 17, JournalCause::After),
-        ("end\n", "end\n0 0 tick\nx\n", 17, JournalCause::After),
-        // Of two faults the one on the earlier line is named.
-        (
-            "wave 600000\nleaders 20",
-            "wave 99\nleader",
-            4,
-            JournalCause::Range,
-        ),
-        (
-            "team Blue\nplayer 400 1",
-            "team Red\nplayer 400 7",
-            7,
-            JournalCause::Repeat,
-        ),
-        (
-            "7 1 pause 2\n1000000000",
-            "7 1 tick\n01",
-            14,
-            JournalCause::NotBuilt,
-        ),
-    ];
-    check_faults(&rt, rt.alloc(), BATTLE, &cases)
-}
-
-#[test]
-fn each_beginning_of_a_text_ends_in_its_last_line(rt: HostRuntime) -> Result<(), Fail> {
-    for n in 0..BATTLE.len() {
-        let beginning = &BATTLE.as_bytes()[..n];
-        let lines = beginning.iter().filter(|b| **b == b'\n').count();
-        let fault = refusal(rt.alloc(), beginning);
-        assert_eq!(rt; fault, Some((lines as u64 + 1, JournalCause::Ended)), "{n}");
-    }
-    Ok(())
-}
-
 #[test]
 fn a_journal_is_written_and_read_back(rt: HostRuntime) -> Result<(), Fail> {
-    for text in [EVENING, BATTLE] {
+    for text in [EVENING, BATTLE, GAMES, LISTED] {
         let journal = read_journal(rt.alloc(), text.as_bytes())
             .ok()
             .ok_or("the text is a journal's")?;
         let written = write_journal(rt.alloc(), &journal)?;
         assert_eq!(rt; written.bytes(), text.as_bytes());
+    }
+    for text in [EVENING, BATTLE, GAMES] {
+        let journal = read_journal(rt.alloc(), text.as_bytes())
+            .ok()
+            .ok_or("the text is a journal's")?;
         let lines = text.as_bytes().split(|b| *b == b'\n');
         let first = 6 + journal.setup.teams.items().len() + journal.setup.players.items().len();
         for (entry, line) in journal.entries.items().iter().zip(lines.skip(first)) {
             assert_eq!(rt; write_entry(rt.alloc(), entry)?.bytes(), line);
         }
     }
+    Ok(())
+}
+
+/// The one move of this word.
+fn action(word: &str) -> Result<Action, Fail> {
+    Ok(Action::Move(read_move(word.as_bytes()).ok_or("the word is a move's")?))
+}
+
+#[test]
+fn each_kind_of_entry_is_read(rt: HostRuntime) -> Result<(), Fail> {
+    let journal = read_journal(rt.alloc(), GAMES.as_bytes())
+        .ok()
+        .ok_or("the text is a journal's")?;
+    assert_eq!(rt; (journal.version, journal.setup.rule), (1, 1));
+    assert!(rt; journal.starts.items().is_empty());
+    let wanted = [
+        What::Enter(0),
+        What::Enter(1),
+        What::Wave(2),
+        What::Act(0, 0, Action::Berserk),
+        What::Act(0, 0, action("e2e4")?),
+        What::Act(1, 0, Action::Offer),
+        What::Act(0, 0, Action::Decline),
+        What::Act(1, 199_999, action("a7a8q")?),
+        What::Act(1, 0, Action::Claim),
+        What::Act(1, 0, Action::Accept),
+        What::Tick,
+        What::Act(0, 0, Action::Resign),
+        What::Wave(8_000_000),
+    ];
+    assert_eq!(rt; journal.entries.items().len(), wanted.len());
+    for (entry, what) in journal.entries.items().iter().zip(wanted.iter()) {
+        assert_eq!(rt; entry.what, *what);
+    }
+    Ok(())
+}
+
+#[test]
+fn the_games_of_waves_are_read(rt: HostRuntime) -> Result<(), Fail> {
+    let journal = read_journal(rt.alloc(), LISTED.as_bytes())
+        .ok()
+        .ok_or("the text is a journal's")?;
+    assert_eq!(rt; (journal.version, journal.setup.rule), (2, 2));
+    let wanted = [(1u64, 1u32, 2u32), (1, 3, 0), (3, 0, 0)];
+    assert_eq!(rt; journal.starts.items().len(), wanted.len());
+    for (game, (entry, white, black)) in journal.starts.items().iter().zip(wanted.iter()) {
+        assert_eq!(rt;
+            *game,
+            Start {
+                entry: *entry,
+                white: *white,
+                black: *black
+            }
+        );
+    }
+    let wave = journal.entries.items().get(1).ok_or("there is a wave")?;
+    let line = write_entry(rt.alloc(), wave)?;
+    assert_eq!(rt; line.bytes(), b"0 0 wave 3".as_slice());
+    Ok(())
+}
+
+/// A wave that lists so many games.
+fn long_wave(alloc: Global, games: u32) -> Result<String, AllocError> {
+    let mut line = String::from_str(alloc, "wave 3")?;
+    for _ in 0..games {
+        line.push_str(" 1-2")?;
+    }
+    changed(alloc, LISTED, "wave 3 1-2 3-0", line.as_str())
+}
+
+#[test]
+fn a_wave_lists_at_most_500_games(rt: HostRuntime) -> Result<(), Fail> {
+    let most = long_wave(rt.alloc(), 500)?;
+    assert!(rt; read_journal(rt.alloc(), most.as_bytes()).is_ok());
+    let more = long_wave(rt.alloc(), 501)?;
+    assert_eq!(rt;
+        refusal(rt.alloc(), more.as_bytes()),
+        Some((13, JournalCause::Range))
+    );
     Ok(())
 }
 

@@ -1,14 +1,17 @@
 //! The text of a journal, written.
 
-ghost use Rattle.std.specs.Prelude.{◌≡◌, ◌+◌, ◌*◌, ◌≤◌, ◌∷◌, ◌++◌, [], IfOk, OnOk, length};
+ghost use Rattle.std.specs.Prelude.{◌≡◌, ◌+◌, ◌*◌, ◌<◌, ◌≤◌, ◌∷◌, ◌++◌, [], IfOk, OnOk, length};
 ghost use Rattle.std.specs.Fmt.{decimal};
 ghost use Rattle.std.specs.List.{flat_map};
 ghost use Rattle.entries.specs.Ranges.{IsWritable};
+ghost use Rattle.entries.specs.declared.journal.What.TheVariants.{Act};
 ghost use Rattle.journal_text.specs.Lines.{spaced, line};
-ghost use Rattle.journal_text.specs.Text.{control_line, window_line, wave_line, leaders_line, team_line, team_word, player_line, what_words, entry_words, entry_line, setup_text, text_of};
+ghost use Rattle.journal_text.specs.Text.{version_lines, control_words, window_words, number_words, team_words, team_word, player_words, action_words, what_words, entry_words, pair_word, setup_lines, text_of};
+ghost use Rattle.journal_text.specs.Writing.{own_of, behind_own, pairs_text, entry_text, entries_text};
 
+use board::write_move;
 use conn::Text;
-use entries::{Control, Entry, Journal, Player, Setup, What};
+use entries::{Action, Control, Entry, Journal, Player, Setup, Start, What};
 use itoa::Buffer;
 use std::alloc::{AllocError, Global};
 
@@ -40,9 +43,9 @@ fn put_number(text: &mut Vec<u8>, n: u64, byte: u8) -> Result<(), AllocError>
 }
 
 /// Puts the line of a time control.
-#[tactic(auto, using(crate::proofs::PutLines::four_words), unfolding(crate::specs::Text::control_line))]
+#[tactic(auto, using(crate::proofs::PutLines::four_words))]
 fn put_control(text: &mut Vec<u8>, c: &Control) -> Result<(), AllocError>
-    ensures { OnOk result (text.new.items ≡ text.old.items ++ control_line c.now) }
+    ensures { OnOk result (text.new.items ≡ text.old.items ++ line (control_words c.now)) }
 {
     put(text, b"control", b' ')?;
     put_number(text, c.initial_ms / 1000, b' ')?;
@@ -51,9 +54,9 @@ fn put_control(text: &mut Vec<u8>, c: &Control) -> Result<(), AllocError>
 }
 
 /// Puts the line that says when an arena starts and ends.
-#[tactic(auto, using(crate::proofs::PutLines::three_words), unfolding(crate::specs::Text::window_line))]
+#[tactic(auto, using(crate::proofs::PutLines::three_words))]
 fn put_window(text: &mut Vec<u8>, s: &Setup) -> Result<(), AllocError>
-    ensures { OnOk result (text.new.items ≡ text.old.items ++ window_line s.now) }
+    ensures { OnOk result (text.new.items ≡ text.old.items ++ line (window_words s.now.starts s.now.ends)) }
 {
     put(text, b"window", b' ')?;
     put_number(text, s.starts, b' ')?;
@@ -63,16 +66,28 @@ fn put_window(text: &mut Vec<u8>, s: &Setup) -> Result<(), AllocError>
 /// Puts a line `WORD N`.
 #[tactic(auto, using(crate::proofs::PutLines::two_words))]
 fn put_value(text: &mut Vec<u8>, word: &[u8], n: u64) -> Result<(), AllocError>
-    ensures { OnOk result (text.new.items ≡ text.old.items ++ line (word.now ∷ decimal n ∷ [])) }
+    ensures { OnOk result (text.new.items ≡ text.old.items ++ line (number_words word.now n)) }
 {
     put(text, word, b' ')?;
     put_number(text, n, b'\n')
 }
 
+/// Puts the line of the version, and in version 2 that of the pairing rule.
+fn put_version(text: &mut Vec<u8>, version: u32, rule: u32) -> Result<(), AllocError>
+    ensures { OnOk result (text.new.items ≡ text.old.items ++ flat_map line (version_lines version rule)) }
+{
+    if version == 1 {
+        put(text, b"arena 1", b'\n')
+    } else {
+        put(text, b"arena 2", b'\n')?;
+        put_value(text, b"rule", u64::from(rule))
+    }
+}
+
 /// Puts the line of a team.
-#[tactic(auto, using(crate::proofs::PutLines::two_words), unfolding(crate::specs::Text::team_line))]
+#[tactic(auto, using(crate::proofs::PutLines::two_words))]
 fn put_team(text: &mut Vec<u8>, name: &[u8]) -> Result<(), AllocError>
-    ensures { OnOk result (text.new.items ≡ text.old.items ++ team_line name.now) }
+    ensures { OnOk result (text.new.items ≡ text.old.items ++ line (team_words name.now)) }
 {
     put(text, b"team", b' ')?;
     put(text, name, b'\n')
@@ -89,9 +104,9 @@ fn put_membership(text: &mut Vec<u8>, team: Option<u32>) -> Result<(), AllocErro
 }
 
 /// Puts the line of a player.
-#[tactic(auto, using(crate::proofs::PutLines::four_words), unfolding(crate::specs::Text::player_line))]
+#[tactic(auto, using(crate::proofs::PutLines::four_words))]
 fn put_player(text: &mut Vec<u8>, p: &Player) -> Result<(), AllocError>
-    ensures { OnOk result (text.new.items ≡ text.old.items ++ player_line p.now) }
+    ensures { OnOk result (text.new.items ≡ text.old.items ++ line (player_words p.now)) }
 {
     put(text, b"player", b' ')?;
     put_number(text, u64::from(p.rating), b' ')?;
@@ -99,13 +114,43 @@ fn put_player(text: &mut Vec<u8>, p: &Player) -> Result<(), AllocError>
     put(text, p.name.bytes(), b'\n')
 }
 
-/// Puts the word of a kind of entry, and its player.
+/// Puts what was done in a game.
+#[tactic(auto, using(crate::proofs::PutLines::move_put))]
+fn put_action(text: &mut Vec<u8>, action: Action) -> Result<(), AllocError>
+    ensures { OnOk result (text.new.items ≡ text.old.items ++ spaced (action_words action)) }
+{
+    match action {
+        Action::Move(m) => {
+            put(text, b"move", b' ')?;
+            text.extend_from_slice(write_move(m).as_bytes())
+        }
+        Action::Resign => text.extend_from_slice(b"resign"),
+        Action::Offer => text.extend_from_slice(b"offer"),
+        Action::Accept => text.extend_from_slice(b"accept"),
+        Action::Decline => text.extend_from_slice(b"decline"),
+        Action::Claim => text.extend_from_slice(b"claim"),
+        Action::Berserk => text.extend_from_slice(b"berserk"),
+    }
+}
+
+/// Puts the word of a kind of entry, and a number.
 #[tactic(auto, using(crate::proofs::PutLines::two_last))]
-fn put_kind(text: &mut Vec<u8>, word: &[u8], player: u32) -> Result<(), AllocError>
-    ensures { OnOk result (text.new.items ≡ text.old.items ++ spaced (word.now ∷ decimal player ∷ [])) }
+fn put_kind(text: &mut Vec<u8>, word: &[u8], n: u64) -> Result<(), AllocError>
+    ensures { OnOk result (text.new.items ≡ text.old.items ++ spaced (word.now ∷ decimal n ∷ [])) }
 {
     put(text, word, b' ')?;
-    put_last(text, u64::from(player))
+    put_last(text, n)
+}
+
+/// Puts what a player did in a game.
+#[tactic(auto, using(crate::proofs::PutLines::act_put))]
+fn put_act(text: &mut Vec<u8>, player: u32, game: u32, action: Action) -> Result<(), AllocError>
+    ensures { OnOk result (text.new.items ≡ text.old.items ++ spaced (what_words (Act player game action))) }
+{
+    put(text, b"act", b' ')?;
+    put_number(text, u64::from(player), b' ')?;
+    put_number(text, u64::from(game), b' ')?;
+    put_action(text, action)
 }
 
 /// Puts what an entry did.
@@ -113,13 +158,16 @@ fn put_what(text: &mut Vec<u8>, what: What) -> Result<(), AllocError>
     ensures { OnOk result (text.new.items ≡ text.old.items ++ spaced (what_words what)) }
 {
     match what {
-        What::Enter(player) => put_kind(text, b"enter", player),
-        What::Pause(player) => put_kind(text, b"pause", player),
-        What::Leave(player) => put_kind(text, b"leave", player),
+        What::Enter(player) => put_kind(text, b"enter", u64::from(player)),
+        What::Pause(player) => put_kind(text, b"pause", u64::from(player)),
+        What::Leave(player) => put_kind(text, b"leave", u64::from(player)),
+        What::Act(player, game, action) => put_act(text, player, game, action),
+        What::Tick => text.extend_from_slice(b"tick"),
+        What::Wave(n) => put_kind(text, b"wave", n),
     }
 }
 
-/// Puts the line of an entry, without its line feed.
+/// Puts an entry, without the games that it lists and without the line feed.
 #[tactic(auto, using(crate::proofs::PutLines::entry_put))]
 fn put_entry(text: &mut Vec<u8>, e: &Entry) -> Result<(), AllocError>
     ensures { OnOk result (text.new.items ≡ text.old.items ++ spaced (entry_words e.now)) }
@@ -129,19 +177,40 @@ fn put_entry(text: &mut Vec<u8>, e: &Entry) -> Result<(), AllocError>
     put_what(text, e.what)
 }
 
-/// Puts the line of an entry.
-#[tactic(auto, using(crate::proofs::PutLines::fed), unfolding(crate::specs::Text::entry_line))]
-fn put_entry_line(text: &mut Vec<u8>, e: &Entry) -> Result<(), AllocError>
-    ensures { OnOk result (text.new.items ≡ text.old.items ++ entry_line e.now) }
+/// Puts a space, and the two players of a game.
+#[tactic(auto, using(crate::proofs::PutLines::pair_put))]
+fn put_pair(text: &mut Vec<u8>, game: &Start) -> Result<(), AllocError>
+    ensures { OnOk result (text.new.items ≡ text.old.items ++ 32 ∷ pair_word game.now) }
 {
-    put_entry(text, e)?;
-    text.push(b'\n')?;
-    Ok(())
+    text.push(b' ')?;
+    put_number(text, u64::from(game.white), b'-')?;
+    put_last(text, u64::from(game.black))
+}
+
+/// Puts the games in front that are of the entry with this number, and gives those behind them.
+
+fn put_pairs<'a>(
+    text: &mut Vec<u8>,
+    number: u64,
+    games: &'a [Start],
+) -> Result<&'a [Start], AllocError>
+    ensures put { OnOk result (text.new.items ≡ text.old.items ++ pairs_text (own_of number games.now)) }
+    ensures rest { IfOk result (λ rest. rest.now ≡ behind_own number games.now) }
+{
+    let mut rest = games;
+    'pairs: while let [game, others @ ..] = rest {
+        if game.entry != number {
+            return Ok(rest);
+        }
+        put_pair(text, game)?;
+        rest = others;
+    }
+    Ok(rest)
 }
 
 /// Puts the lines of the teams.
 fn put_teams(text: &mut Vec<u8>, teams: &[Text]) -> Result<(), AllocError>
-    ensures { OnOk result (text.new.items ≡ text.old.items ++ flat_map team_line teams.now) }
+    ensures { OnOk result (text.new.items ≡ text.old.items ++ flat_map (λ name. line (team_words name)) teams.now) }
 {
     for team in teams {
         put_team(text, team.bytes())?;
@@ -151,7 +220,7 @@ fn put_teams(text: &mut Vec<u8>, teams: &[Text]) -> Result<(), AllocError>
 
 /// Puts the lines of the players.
 fn put_players(text: &mut Vec<u8>, players: &[Player]) -> Result<(), AllocError>
-    ensures { OnOk result (text.new.items ≡ text.old.items ++ flat_map player_line players.now) }
+    ensures { OnOk result (text.new.items ≡ text.old.items ++ flat_map (λ p. line (player_words p)) players.now) }
 {
     for player in players {
         put_player(text, player)?;
@@ -159,22 +228,47 @@ fn put_players(text: &mut Vec<u8>, players: &[Player]) -> Result<(), AllocError>
     Ok(())
 }
 
-/// Puts the lines of the entries.
-fn put_entries(text: &mut Vec<u8>, entries: &[Entry]) -> Result<(), AllocError>
-    ensures { OnOk result (text.new.items ≡ text.old.items ++ flat_map entry_line entries.now) }
+/// Puts the line of an entry, with the games in front that are of it, and gives those behind them.
+#[tactic(auto, using(crate::proofs::PutLines::entry_line_put))]
+fn put_entry_line<'a>(
+    text: &mut Vec<u8>,
+    number: u64,
+    e: &Entry,
+    games: &'a [Start],
+) -> Result<&'a [Start], AllocError>
+    ensures put { OnOk result (text.new.items ≡ text.old.items ++ entry_text e.now (own_of number games.now)) }
+    ensures rest { IfOk result (λ rest. rest.now ≡ behind_own number games.now) }
 {
-    for entry in entries {
-        put_entry_line(text, entry)?;
+    put_entry(text, e)?;
+    let rest = put_pairs(text, number, games)?;
+    text.push(b'\n')?;
+    Ok(rest)
+}
+
+/// Puts the lines of the entries, with the games that they list.
+
+#[tactic(auto, unfolding(crate::specs::Writing::entries_text))]
+fn put_entries(text: &mut Vec<u8>, entries: &[Entry], games: &[Start]) -> Result<(), AllocError>
+    ensures { OnOk result (text.new.items ≡ text.old.items ++ entries_text 0 games.now entries.now) }
+{
+    let mut left = games;
+    let mut rest = entries;
+    let mut number = 0u64;
+    'entries: while let [entry, others @ ..] = rest {
+        left = put_entry_line(text, number, entry, left)?;
+        rest = others;
+        number += 1;
     }
     Ok(())
 }
 
 /// Puts the lines up to `begin`.
-#[tactic(auto, using(crate::proofs::PutLines::setup_put))]
-fn put_setup(text: &mut Vec<u8>, s: &Setup) -> Result<(), AllocError>
-    ensures { OnOk result (text.new.items ≡ text.old.items ++ setup_text s.now) }
+
+#[tactic(auto, using(crate::proofs::WrittenLines::setup_put))]
+fn put_setup(text: &mut Vec<u8>, version: u32, s: &Setup) -> Result<(), AllocError>
+    ensures { OnOk result (text.new.items ≡ text.old.items ++ flat_map line (setup_lines version s.now)) }
 {
-    put(text, b"arena 1", b'\n')?;
+    put_version(text, version, s.rule)?;
     put_control(text, &s.control)?;
     put_window(text, s)?;
     put_value(text, b"wave", s.wave_ms)?;
@@ -184,42 +278,25 @@ fn put_setup(text: &mut Vec<u8>, s: &Setup) -> Result<(), AllocError>
     put(text, b"begin", b'\n')
 }
 
-/// As many bytes as the text of so many teams, players and entries has at most: the lines beside theirs have up to 110,
-/// a team's up to 26, a player's up to 37 and an entry's up to 25.
-fn room(teams: usize, players: usize, entries: usize) -> usize
-    requires few { teams ≤ 100 }
-    requires some { players ≤ 1000 }
-    requires many { entries ≤ 8000000 }
-    ensures { result ≡ 110 + 26 * teams + 37 * players + 25 * entries }
-{
-    110 + 26 * teams + 37 * players + 25 * entries
-}
+/// The text of a journal with a good setup, entries in range and what its version asks. It takes memory for the text alone.
 
-/// The text of a journal with a good setup and entries in range.
-#[tactic(auto, using(crate::proofs::PutLines::journal_put))]
+#[tactic(auto, using(crate::proofs::WrittenLines::journal_put))]
 pub fn write_journal(alloc: Global, j: &Journal) -> Result<Text, AllocError>
     requires { IsWritable j.now }
     ensures { IfOk result (λ text. text ≡ text_of j.now) }
 {
-    let s = &j.setup;
-    let entries = j.entries.items();
-    let room = room(
-        s.teams.items().len(),
-        s.players.items().len(),
-        entries.len(),
-    );
-    let mut text = Vec::with_capacity(alloc, room)?;
-    put_setup(&mut text, s)?;
-    put_entries(&mut text, entries)?;
+    let mut text = Vec::new(alloc);
+    put_setup(&mut text, j.version, &j.setup)?;
+    put_entries(&mut text, j.entries.items(), j.starts.items())?;
     put(&mut text, b"end", b'\n')?;
     Ok(Text::of(text))
 }
 
-/// The line of an entry, without its line feed.
+/// The line of an entry, without its line feed, as it stands in a journal of version 1: without the games that it lists.
 pub fn write_entry(alloc: Global, e: &Entry) -> Result<Text, AllocError>
     ensures { IfOk result (λ text. text ≡ spaced (entry_words e.now)) }
 {
-    let mut text = Vec::with_capacity(alloc, 24)?;
+    let mut text = Vec::with_capacity(alloc, 40)?;
     put_entry(&mut text, e)?;
     Ok(Text::of(text))
 }

@@ -12,6 +12,20 @@ pub struct Candidate {
     pub balance: i32,
     /// His team, if he plays for one.
     pub team: Option<u32>,
+    /// How many committed waves have left him alone since his last game.
+    pub alone: u32,
+}
+
+/// What holds for a whole snapshot, whose players are paired group by group.
+#[derive(Debug, Clone, Copy, PartialEq, Eq)]
+pub struct Frame {
+    /// The greatest rank of all who are idle, or 0 where nobody is.
+    pub max: u32,
+    /// How many are idle.
+    pub idle: u32,
+    /// The rule of pairing, 1 or 2. Under rule 2 it costs more to leave a player alone again, and nobody meets his last
+    /// opponent again at once while more than two are idle.
+    pub rule: u32,
 }
 
 /// Two players who are to meet, by their numbers.

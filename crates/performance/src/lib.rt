@@ -3,8 +3,10 @@
 //! answer being that of the list.
 #![tactic(auto)]
 
+mod laws;
 mod perf;
 #[cfg(test)]
 mod tests;
 
+pub use laws::performance_range;
 pub use perf::Perf;

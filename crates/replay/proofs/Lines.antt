@@ -8,7 +8,7 @@ use Rattle.std.specs.Option.{option_map_or}
 use Rattle.std.proofs.lemmas.List.{at_drop_more, get_or-map, length-map}
 use Rattle.entries.specs.declared.setup.Player.{Player}
 use Rattle.ranking.specs.declared.row.Row.{Row}
-use Rattle.journal_text.specs.Lines.{line}
+use Rattle.first_text.specs.Lines.{line}
 use Rattle.replay.specs.Table.{score_words, player_line, row_line, count_line}
 
 -- what was put behind a text is a line where its bytes are those of the line

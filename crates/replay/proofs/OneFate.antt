@@ -2,14 +2,14 @@
 use Rattle.std.proofs.Common.{◌≡◌, ◌<◌, ℕ, suc, zero, List, [], ◌∷◌, Option, Some, None, MatchOption, take, slice_get, refl, sym, ap, subst, ◌∙◌, inl, inr, arith}
 use Rattle.std.proofs.lemmas.Bool.{cases_lt}
 use Rattle.std.proofs.lemmas.List.{take-take}
-use Rattle.entries.specs.declared.journal.Entry.{Entry}
-use Rattle.entries.specs.declared.journal.Journal.{Journal as JournalValue}
+use Rattle.first_journal.specs.declared.journal.Entry.{Entry}
+use Rattle.first_journal.specs.declared.journal.Journal.{Journal as JournalValue}
 use Rattle.entries.specs.declared.setup.Setup.{Setup}
 use Rattle.history.specs.History.{history}
 use Rattle.history.specs.Legal.{IsLegal}
-use Rattle.journal_text.specs.declared.fault.JournalFault.{JournalFault}
-use Rattle.journal_text.specs.Faults.{fault_of}
-use Rattle.journal_text.specs.Text.{Spells, line_of_entry}
+use Rattle.first_text.specs.declared.fault.JournalFault.{JournalFault}
+use Rattle.first_text.specs.Faults.{fault_of}
+use Rattle.first_text.specs.Text.{Spells, line_of_entry}
 use Rattle.replay.specs.declared.replay_end.IllegalCause.{IllegalCause}
 use Rattle.replay.specs.Fates as fate
 use Rattle.replay.specs.Fates.{Fate}

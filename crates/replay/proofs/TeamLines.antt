@@ -10,7 +10,7 @@ use Rattle.std.proofs.lemmas.List.{at_drop_more, get_or-map, length-map}
 use Rattle.std.proofs.lemmas.List.FromFn.{get_or-range_with_len, length-range_with_len}
 use Rattle.std.proofs.lemmas.List.Sorted.{All-permutation}
 use Rattle.team_battle.specs.declared.team_row.TeamRow.{TeamRow}
-use Rattle.journal_text.specs.Lines.{line}
+use Rattle.first_text.specs.Lines.{line}
 use Rattle.replay.specs.Table.{team_words, team_line, team_row_line}
 
 -- what a team has in one piece

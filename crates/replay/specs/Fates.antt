@@ -1,6 +1,6 @@
 -- What a text of bytes can come to.
 use Rattle.std.specs.Prelude.{ℕ, List}
-use Rattle.journal_text.specs.declared.fault.JournalFault.{JournalFault}
+use Rattle.first_text.specs.declared.fault.JournalFault.{JournalFault}
 use Rattle.replay.specs.declared.replay_end.IllegalCause.{IllegalCause}
 
 -- it is longer than 400,000,000 bytes, or it is no journal's and this is the first fault, or its journal is not legal and this

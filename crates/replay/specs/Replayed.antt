@@ -1,16 +1,16 @@
 -- What becomes of a text of bytes: its table, or why it has none.
 use Rattle.std.specs.Prelude.{◌≡◌, ℕ, ◌<◌, ◌≤◌, nat_lt, if◌then◌else◌, List, take, length, slice_get, Option, Some, option_map}
 use Rattle.entries.specs.declared.setup.Setup.{Setup}
-use Rattle.entries.specs.declared.journal.Entry.{Entry}
-use Rattle.entries.specs.declared.journal.Journal.{Journal as JournalValue}
-use Rattle.entries.specs.declared.journal.What.{What}
-use Rattle.entries.specs.declared.journal.What.TheVariants as what
+use Rattle.first_journal.specs.declared.journal.Entry.{Entry}
+use Rattle.first_journal.specs.declared.journal.Journal.{Journal as JournalValue}
+use Rattle.first_journal.specs.declared.journal.What.{What}
+use Rattle.first_journal.specs.declared.journal.What.TheVariants as what
 use Rattle.history.specs.declared.command.Command.{Command}
 use Rattle.history.specs.declared.command.Command.TheVariants.{Enter, Pause, Leave}
 use Rattle.history.specs.History.{History, history}
 use Rattle.history.specs.Legal.{last_stamp, verdict, IsLegal}
-use Rattle.journal_text.specs.Faults.{fault_of}
-use Rattle.journal_text.specs.Text.{Spells, line_of_entry}
+use Rattle.first_text.specs.Faults.{fault_of}
+use Rattle.first_text.specs.Text.{Spells, line_of_entry}
 use Rattle.replay.specs.declared.replay_end.IllegalCause.{IllegalCause}
 use Rattle.replay.specs.declared.replay_end.IllegalCause.TheVariants.{StampFalls, Refused}
 use Rattle.replay.specs.Fates.{Fate, TooLong, BadJournal, Illegal, Table}

@@ -1,12 +1,12 @@
 -- What a replay has done where it ends so.
 use Rattle.std.specs.Prelude.{◌≡◌, ℕ, ◌⊎◌, List, [], ◌∷◌, ◌++◌, length, Option, Some, IfSome, Result, Ok, Err}
-use Rattle.entries.specs.declared.journal.Entry.{Entry}
-use Rattle.entries.specs.declared.journal.Journal.{Journal as JournalValue}
+use Rattle.first_journal.specs.declared.journal.Entry.{Entry}
+use Rattle.first_journal.specs.declared.journal.Journal.{Journal as JournalValue}
 use Rattle.entries.specs.declared.setup.Setup.{Setup}
 use Rattle.conn.specs.Told.{Gained, GainedPart}
 use Rattle.history.specs.History.{history}
-use Rattle.arena_core.specs.Held.{Held}
-use Rattle.journal_text.specs.Text.{line_of_entry}
+use Rattle.first_arena.specs.Held.{Held}
+use Rattle.first_text.specs.Text.{line_of_entry}
 use Rattle.replay.specs.declared.replay_end.ReplayEnd.{ReplayEnd}
 use Rattle.replay.specs.declared.replay_end.ReplayEnd.TheVariants.{Done, BadJournal, Illegal, TooLong, ReadFault, WriteFault, OutOfMemory}
 use Rattle.replay.specs.declared.playing.NoTable.{NoTable}

@@ -5,12 +5,12 @@ use Rattle.std.specs.Fmt.{decimal, signed_decimal}
 use Rattle.std.specs.Option.{option_map_or}
 use Rattle.entries.specs.declared.setup.Player.{Player}
 use Rattle.entries.specs.declared.setup.Setup.{Setup}
-use Rattle.entries.specs.declared.journal.Entry.{Entry}
+use Rattle.first_journal.specs.declared.journal.Entry.{Entry}
 use Rattle.history.specs.History.{History, history}
 use Rattle.history.specs.Table.{standings, team_standings}
 use Rattle.ranking.specs.declared.row.Row.{Row}
 use Rattle.team_battle.specs.declared.team_row.TeamRow.{TeamRow}
-use Rattle.journal_text.specs.Lines.{line}
+use Rattle.first_text.specs.Lines.{line}
 
 -- how many games count: none, since no entry ends a game yet
 abbrev pub counted_games : Setup → History → ℕ

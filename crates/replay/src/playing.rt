@@ -1,15 +1,15 @@
 ghost use Rattle.std.specs.Prelude.{◌≡◌, length};
-ghost use Rattle.entries.specs.Ranges.{IsEntryOf, IsWritable};
+ghost use Rattle.first_journal.specs.Ranges.{IsEntryOf, IsWritable};
 ghost use Rattle.history.specs.Legal.{IsLegal, last_stamp};
-ghost use Rattle.journal_text.specs.Text.{line_of_entry};
+ghost use Rattle.first_text.specs.Text.{line_of_entry};
 ghost use Rattle.replay.specs.Replayed.{command_of};
 ghost use Rattle.replay.specs.Replays.{Accepts, Plays};
 
 use crate::replay_end::IllegalCause;
-use arena_core::{ApplyFault, Arena};
-use entries::{Entry, Journal, What};
+use first_arena::{ApplyFault, Arena};
+use first_journal::{Entry, Journal, What};
+use first_text::JournalFault;
 use history::{Command, legal_lists};
-use journal_text::JournalFault;
 use std::alloc::Global;
 
 /// Why a text has no table.

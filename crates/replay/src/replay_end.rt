@@ -1,5 +1,5 @@
+use first_text::JournalFault;
 use history::Refusal;
-use journal_text::JournalFault;
 
 /// Why an entry of a journal is not allowed behind those before it.
 #[derive(Debug, Clone, Copy, PartialEq, Eq)]

@@ -10,7 +10,7 @@ use crate::playing::{NoTable, played};
 use crate::replay_end::ReplayEnd;
 use crate::table::write_table;
 use conn::{ReadAllFault, Sink, Source, Text, read_all, write_all};
-use journal_text::{ReadJournalFault, read_journal};
+use first_text::{ReadJournalFault, read_journal};
 use std::alloc::Global;
 
 /// How many bytes of a journal are read at most.

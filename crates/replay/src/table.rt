@@ -1,14 +1,14 @@
 ghost use Rattle.std.specs.Prelude.{◌≡◌, ◌<◌, ◌++◌, length, All, OnOk, IfOk};
 ghost use Rattle.std.specs.List.{flat_map};
 ghost use Rattle.std.specs.String.{string_bytes};
-ghost use Rattle.journal_text.specs.Lines.{line};
+ghost use Rattle.first_text.specs.Lines.{line};
 ghost use Rattle.ranking.specs.declared.row.Row.{Row as RowValue};
 ghost use Rattle.replay.specs.Table.{table, score_words, player_line, row_line, count_line};
 
 use crate::team_lines::push_teams;
-use arena_core::Arena;
 use conn::Text;
 use entries::Player;
+use first_arena::Arena;
 use history::table_is_in_order;
 use ranking::Row;
 use std::alloc::{AllocError, Global};

@@ -1,7 +1,7 @@
 ghost use Rattle.std.specs.Prelude.{◌≡◌, ◌<◌, ◌++◌, length, All, OnOk, IfOk};
 ghost use Rattle.std.specs.List.{flat_map};
 ghost use Rattle.std.specs.String.{string_bytes};
-ghost use Rattle.journal_text.specs.Lines.{line};
+ghost use Rattle.first_text.specs.Lines.{line};
 ghost use Rattle.team_battle.specs.declared.team_row.TeamRow.{TeamRow as TeamRowValue};
 ghost use Rattle.replay.specs.Table.{team_line, team_row_line, team_words};
 

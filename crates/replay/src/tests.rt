@@ -2,8 +2,8 @@ ghost use Rattle.std.specs.Prelude.{◌≤◌};
 
 use crate::{IllegalCause, ReplayEnd, replay};
 use conn::{MemSink, MemSource};
+use first_text::{JournalCause, JournalFault};
 use history::Refusal;
-use journal_text::{JournalCause, JournalFault};
 use std::alloc::{AllocError, Global};
 use std::test::Fail;
 

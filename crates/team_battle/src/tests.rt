@@ -116,6 +116,7 @@ fn evening(alloc: Global) -> Result<Setup, AllocError>
         ends: 100,
         wave_ms: 5_000,
         leaders: 2,
+        rule: 1,
         teams: List::of(teams),
         players: List::of(players),
     })

@@ -52,6 +52,8 @@ module _ {V E F : Type 0} (entries : V → List E) (by : E → ℕ) (fixed : V �
       let turn = λ (i k : ℕ) (v : View E F) (at : get_elem? s.views i ≡ some v) (is : v.stage ≡ Turn k). turn_knows p.ended p.taken p.taker p.history s.homes i k v.role v.seen v.stage is (r.each_seat i v at).stage in
       let holder = λ (i k : ℕ) (v : View E F) (at : get_elem? s.views i ≡ some v) (is : v.role ≡ Holder k). holder_knows by p.history p.made p.bearer i k v.seen v.role is (r.each_seat i v at).role in
       record {
+        three_words = r.three_words;
+        one_slot = r.one_slot;
         made = p.made;
         made_few = r.made_few.0;
         one_turn = λ i j k l v w a b t u. let x = turn i k v a t in let y = turn j l w b u in sym x.2 ∙ (ap p.taker (x.0 ∙ sym y.0) ∙ y.2);

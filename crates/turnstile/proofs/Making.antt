@@ -15,6 +15,7 @@ use Rattle.turnstile.specs.Rule.{Past, Kept, Knows, IsBack, KnowsRole, KnowsStag
 use Rattle.turnstile.specs.Steps.{one_more_made, newcomer, with_joined, spent, role_of_maker, role_of_newcomer, role_with}
 use Rattle.turnstile.specs.Views.{tickets, passes_of, IsLive, maker_view}
 use Rattle.turnstile.proofs.Counts.{sum_set, sum_snoc, all_to, all_one, at_end, put, put_here, put_else, put_same}
+use Rattle.turnstile.proofs.Apart.{apart_more}
 use Rattle.turnstile.proofs.Own.{seen_nothing}
 use Rattle.turnstile.proofs.Seats.{some_is, each_set, slot_stays, slot_longer, idle_no_turn, holder_knows, maker_knows}
 
@@ -60,7 +61,7 @@ module _ {V E F : Type 0} (entries : V → List E) (by : E → ℕ) (fixed : V �
 
       one : (j : ℕ) (v : View E F) → get_elem? (maker_view f n 0 [] ∷ []) j ≡ some v → Knows by f n start (some (Some x) ∷ []) j v
       one zero v e = subst (Knows by f n start (some (Some x) ∷ []) 0) (some-injective (maker_view f n 0 []) v e)
-          record { lock = (λ _. refl); role = (refl, refl, refl, All-nil (IsBack by [] 0 (λ _. 0))); stage = tt }
+          record { lock = (λ _. refl); role = (refl, refl, refl, All-nil (IsBack by [] 0 (λ _. 0)), (λ i k d lt few. absurd (omega arith))); stage = tt }
       one (suc j) v e = absurd (some-ne-none v (sym e))
 
   -- the maker of so many passes makes one more, which bears the next number
@@ -89,7 +90,7 @@ module _ {V E F : Type 0} (entries : V → List E) (by : E → ℕ) (fixed : V �
       each_set (Knows by f n p' s.homes) s.views id w
       record {
         lock = λ _. lock;
-        role = subst (λ (x : Role E). KnowsRole by p.history (p.made + 1) (put p.bearer p.made new) id v.seen x) (sym next) (h.0, ap (λ (z : ℕ). z + 1) h.1, h.2, back_after_cut by p.history p.made new p.bearer joined h.3);
+        role = subst (λ (x : Role E). KnowsRole by p.history (p.made + 1) (put p.bearer p.made new) id v.seen x) (sym next) (h.0, ap (λ (z : ℕ). z + 1) h.1, h.2, back_after_cut by p.history p.made new p.bearer joined h.3, h.4);
         stage = subst (λ (x : Stage). KnowsStage p.ended p.taken p.taker p.history s.homes id w.role v.seen x) (sym idle) tt;
       }
       (λ j u other here. let k = r.each_seat j u here in record {
@@ -166,6 +167,7 @@ module _ {V E F : Type 0} (entries : V → List E) (by : E → ℕ) (fixed : V �
                 k.1,
                 k.2,
                 All-append Back' joined ((i, w.seen) ∷ []) (all_to Back Back' joined (λ q t. (t.0, put_same p.bearer i 0 q.0 t.1, t.2)) k.3) (all_one Back' (i, w.seen) (h.0, put_here p.bearer i 0, h.3)),
+                apart_more by joined i w.seen (all_to Back (λ q. q.0 ≢ i) joined (λ q t e. h.2 (sym h.1 ∙ (ap p.bearer (sym e) ∙ t.1))) k.3) k.4,
               );
               stage = subst (λ (x : Stage). KnowsStage p.ended p.taken p.taker p.history s.homes id b.role v.seen x) (sym idle) tt;
             })

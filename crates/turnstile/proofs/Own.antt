@@ -21,9 +21,10 @@ module _ {E : Type 0} (by : E → ℕ) where
   own_others i seen history h =
       ap (own by i) h.goes_on ∙ (filter-append (λ e. eqb (by e) i) seen h.rest ∙ (ap (λ l. own by i seen ++ l) (own_none i h.rest h.by_others) ∙ append-nil (own by i seen)))
 
-  pub own_only : (i : ℕ) (seen history : List E) → OnlyAdded by i seen history → own by i history ≡ own by i seen ++ drop (length seen) history
-  own_only i seen history h =
-      ap (own by i) h.goes_on ∙ (filter-append (λ e. eqb (by e) i) seen h.new ∙ ap (λ l. own by i seen ++ l) (own_all i h.new h.by_one ∙ sym (ap (drop (length seen)) h.goes_on ∙ drop-append_seam seen h.new)))
+  pub own_gains : (i : ℕ) (seen history new : List E) → OnlyAdded by i seen history → history ≡ seen ++ new → own by i history ≡ own by i seen ++ new
+  own_gains i seen history new h is =
+      let same : h.new ≡ new = sym (drop-append_seam seen h.new) ∙ (ap (drop (length seen)) (sym h.goes_on ∙ is) ∙ drop-append_seam seen new) in
+      ap (own by i) h.goes_on ∙ (filter-append (λ e. eqb (by e) i) seen h.new ∙ ap (λ l. own by i seen ++ l) (own_all i h.new h.by_one ∙ same))
 
   pub begins : (i : ℕ) (seen history : List E) → OthersAdded by i seen history → IsPrefix seen history
   begins i seen history h = (h.rest, sym h.goes_on)

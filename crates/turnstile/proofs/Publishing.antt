@@ -26,6 +26,7 @@ more_entries by i history new now made bearer j seen (Maker m joined) pass ne is
   h.1,
   h.2,
   all_to (IsBack by history made bearer) (IsBack by now made bearer) joined (λ p t. (t.0, t.1, still_others by i p.0 p.1 history now new (λ e. pass (ap bearer (sym e) ∙ t.1)) is mine t.2)) h.3,
+  h.4,
 )
 more_entries by i history new now made bearer j seen (Holder q) pass ne is mine h = (h.0, h.1, h.2, still_others by i q seen history now new (λ e. ne (sym h.1 ∙ ap bearer e)) is mine h.3)
 more_entries by i history new now made bearer j seen Spent pass ne is mine h = tt

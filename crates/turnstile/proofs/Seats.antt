@@ -11,7 +11,7 @@ use Rattle.turnstile.specs.declared.view.Role.TheVariants.{Maker, Holder, Spent}
 use Rattle.turnstile.specs.declared.view.Stage.{Stage}
 use Rattle.turnstile.specs.declared.view.Stage.TheVariants.{Idle, Waiting, Turn}
 use Rattle.turnstile.specs.Histories.{OthersAdded}
-use Rattle.turnstile.specs.Rule.{IsBack, KnowsRole, KnowsStage, Slot}
+use Rattle.turnstile.specs.Rule.{IsBack, AreApart, KnowsRole, KnowsStage, Slot}
 use Rattle.turnstile.specs.Views.{passes_of, IsHolder, IsLive}
 
 pub some_is : {A : Type 0} (a b : A) → Some a ≡ Some b → a ≡ b
@@ -46,7 +46,7 @@ module _ {E : Type 0} (by : E → ℕ) where
   holder_knows history made bearer j i seen role is h = subst (λ (r : Role E). KnowsRole by history made bearer j seen r) is h
 
   pub maker_knows : (history : List E) (made : ℕ) (bearer : ℕ → ℕ) (j m : ℕ) (joined : List (ℕ × List E)) (seen : List E) (role : Role E) → role ≡ Maker m joined → KnowsRole by history made bearer j seen role
-      → (j ≡ 0) × (m ≡ made) × (seen ≡ []) × All (IsBack by history made bearer) joined
+      → (j ≡ 0) × (m ≡ made) × (seen ≡ []) × All (IsBack by history made bearer) joined × AreApart by joined
   maker_knows history made bearer j m joined seen role is h = subst (λ (r : Role E). KnowsRole by history made bearer j seen r) is h
 
 module _ {E S : Type 0} where

@@ -25,6 +25,10 @@ module _ {V E F : Type 0} (entries : V → List E) (by : E → ℕ) (fixed : V �
 
   -- a state of a lock with the fixed part f and n passes
   pub record BetweenSteps : Type 0 where
+    -- ticket, serving and count, and the place of the value
+    pub three_words : length s.words ≡ 3
+    pub one_slot : length s.homes ≡ 1
+    -- how many passes were made so far
     pub made : ℕ
     pub made_few : made ≤ n
     -- no two seats have the turn

@@ -1,5 +1,5 @@
 -- What contracts tell of a turnstile and of a pass.
-use Rattle.std.specs.Prelude.{ℕ, List, [], Bool, false, refl}
+use Rattle.std.specs.Prelude.{◌≡◌, ℕ, List, [], Bool, false, Any, refl}
 use Rattle.std.specs.Coded.{Coded, code_by, coded×, coded_ℕ, coded_bool, coded_list}
 use Rattle.atomic_table.specs.Seated.{TableId, table_id_coded}
 use Rattle.turnstile.specs.Histories.{own}
@@ -35,3 +35,7 @@ new_pass lock i = record { of = lock; number = i; seen = []; turns = []; has_tur
 -- the pass's own entries: of all that it has seen, those that bear its number
 abbrev pub own_of : {E F : Type 0} → (E → ℕ) → PassState E F → List E
 own_of by p = own by p.number p.seen
+
+-- a pass of the list has the number i, and the entries of that number in the history are its own
+abbrev pub IsTold : {E F : Type 0} → (E → ℕ) → List E → List (PassState E F) → ℕ → Type 0
+IsTold by history passes i = Any (λ p. (p.number ≡ i) × (own by i history ≡ own_of by p)) passes

@@ -1,5 +1,5 @@
 -- The rule of the lock: what is true of its words, its slot and its views between any two steps.
-use Rattle.std.specs.Prelude.{◌≡◌, ◌≢◌, ◌⊎◌, ℕ, ◌+◌, ◌%◌, ◌^◌, ◌<◌, ◌≤◌, List, [], ◌∷◌, length, slice_index, Option, Some, All}
+use Rattle.std.specs.Prelude.{◌≡◌, ◌≢◌, ◌⊎◌, ℕ, ◌+◌, ◌%◌, ◌^◌, ◌<◌, ◌≤◌, List, [], ◌∷◌, length, slice_index, Option, Some, All, AllPairs, map}
 use Rattle.std.specs.List.{sum_by}
 use mathlib.Core.Option.{some, none}
 use mathlib.Core.Option as maybe
@@ -27,9 +27,13 @@ module _ {E : Type 0} (by : E → ℕ) where
   abbrev pub IsBack : List E → ℕ → (ℕ → ℕ) → ℕ × List E → Type 0
   IsBack history made bearer p = (p.0 < made) × (bearer p.0 ≡ 0) × OthersAdded by p.0 p.1 history
 
-  -- by its role: the maker has the seat 0 and counts the passes made; a pass alone bears its number, and saw all entries of it
+  -- no two of those that were taken back are of one number
+  abbrev pub AreApart : List (ℕ × List E) → Type 0
+  AreApart joined = AllPairs (λ i k. i ≢ k) (map (λ p. p.0) joined)
+
+  -- by its role: the maker has the seat 0, counts the passes made, and took no number back twice; a pass alone bears its number, and saw all entries of it
   abbrev pub KnowsRole : List E → ℕ → (ℕ → ℕ) → ℕ → List E → Role E → Type 0
-  KnowsRole history made bearer j seen (Maker m joined) = (j ≡ 0) × (m ≡ made) × (seen ≡ []) × All (IsBack history made bearer) joined
+  KnowsRole history made bearer j seen (Maker m joined) = (j ≡ 0) × (m ≡ made) × (seen ≡ []) × All (IsBack history made bearer) joined × AreApart joined
   KnowsRole history made bearer j seen (Holder i) = (i < made) × (bearer i ≡ j) × (j ≢ 0) × OthersAdded by i seen history
   KnowsRole history made bearer j seen Spent = Unit {0}
 

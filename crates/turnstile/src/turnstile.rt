@@ -1,30 +1,24 @@
-ghost use Rattle.std.specs.Prelude.{◌≡◌, ◌≤◌, ◌<◌, ℕ, true, false, [], ◌∷◌, ◌++◌, length, map, drop, All, IfOk, Option};
+ghost use Rattle.std.specs.Prelude.{◌≡◌, ◌≤◌, ◌<◌, ℕ, true, false, [], ◌∷◌, ◌++◌, length, map, All, IfOk, List, Option};
 ghost use Rattle.std.specs.List.{range_with_len};
 ghost use mathlib.Core.List.{IsPrefix};
 ghost use Rattle.atomic_table.specs.Table.{State};
 ghost use Rattle.turnstile.specs.Between.{BetweenSteps};
 ghost use Rattle.turnstile.specs.Histories.{own, OthersAdded, OnlyAdded};
-ghost use Rattle.turnstile.specs.Passes.{new_pass, own_of};
-ghost use Rattle.turnstile.specs.Rule.{Kept};
+ghost use Rattle.turnstile.specs.Passes.{new_pass, own_of, IsTold};
+ghost use Rattle.turnstile.specs.declared.view.Start.{Start};
 ghost use Rattle.turnstile.specs.declared.view.View.{View};
 
 use crate::historied::Historied;
 use crate::pass::Pass;
-use crate::rule::{COUNT, Ruled, SERVING, TICKET, VALUE};
+use crate::rule::{COUNT, Queue, Ruled, SERVING, TICKET, VALUE};
 use crate::steps::{CutPass, JoinPass, Look, Publish, Serve, Take};
 use crate::view::{Start, View};
-use atomic_table::{Badge, Refused, Table};
+use crate::waiters::Waiters;
+use atomic_table::{Badge, Refused, Table, TableRule};
 use std::alloc::{AllocError, Global};
 use std::marker::Model;
 use std::snapshot::Snapshot;
 use std::sync::Wait;
-use std::{hint, thread};
-
-/// How often a waiter looks again at once.
-const QUICK_LOOKS: u32 = 64;
-
-/// How often it looks before it sleeps until the next turn ends.
-const LOOKS: u32 = 80;
 
 /// A lock round a value, which passes take in turns. Contracts see which turnstile it is, the fixed part of its value, and
 /// its number of passes.
@@ -32,6 +26,7 @@ const LOOKS: u32 = 80;
 pub struct Turnstile<V: Historied> {
     table: Ruled<V>,
     maker: Badge<View<<V as Historied>::Entry, <V as Historied>::Fixed>>,
+    waiters: Waiters,
 }
 
 impl<V: Historied> Model for Turnstile<V> {
@@ -63,11 +58,19 @@ impl<V: Historied> Turnstile<V> {
         ensures fixed { IfOk result (λ r. r.0.fixed ≡ V.fixed value) }
         ensures number { IfOk result (λ r. r.0.passes ≡ passes) }
         ensures passes { IfOk result (λ r. r.1.items ≡ map (new_pass r.0) (range_with_len 0 passes)) }
+
+        // What the list of passes says of each, in the words of the other calls' conditions.
+        ensures len { IfOk result (λ r. length r.1.items ≡ passes) }
+        ensures numbers { IfOk result (λ r. map (λ p. p.number) r.1.items ≡ range_with_len 0 passes) }
+        ensures of { IfOk result (λ r. All (λ p. p.of ≡ r.0) r.1.items) }
+        ensures outside { IfOk result (λ r. All (λ p. p.has_turn ≡ false) r.1.items) }
+        ensures unused { IfOk result (λ r. All (λ p. (p.seen ≡ []) × (p.turns ≡ [])) r.1.items) }
     {
         let start = Start {
             value: Snapshot::of(&value),
             passes: u64::from(passes),
         };
+        let waiters = Waiters::for_passes(alloc, passes)?;
         let mut list = Vec::with_capacity(alloc, passes as usize)?;
         let mut slots = Vec::with_capacity(alloc, 1)?;
         slots.push_reserved(Some(value));
@@ -85,7 +88,14 @@ impl<V: Historied> Turnstile<V> {
             });
         }
         let maker = maker.into_badge();
-        Ok((Turnstile { table, maker }, list))
+        Ok((
+            Turnstile {
+                table,
+                maker,
+                waiters,
+            },
+            list,
+        ))
     }
 
     /// Takes a ticket, waits until it is served, and hands out the value, which nobody else has until `leave`.
@@ -109,22 +119,10 @@ impl<V: Historied> Turnstile<V> {
                 pass.seen = value.len();
                 return value;
             }
-            self.pause(rt, looks, serving);
+            self.waiters.pause(rt, looks, ticket, serving);
             looks = looks.saturating_add(1);
         }
         unreachable!()
-    }
-
-    // Between two looks of a waiter, of which the last one found `serving`.
-    fn pause<R: Wait>(&self, rt: &R, looks: u32, serving: u64) {
-        if looks < QUICK_LOOKS {
-            hint::spin_loop();
-        } else if looks < LOOKS {
-            thread::yield_now();
-        } else {
-            let low = serving % (1 << 32);
-            self.table.shared.park(rt, SERVING, low as u32);
-        }
     }
 
     /// Ends the turn: the value goes back under the lock, with what the pass added, for the next ticket. Never waits.
@@ -134,7 +132,7 @@ impl<V: Historied> Turnstile<V> {
         requires history { OnlyAdded V.by pass.old.number pass.old.seen (V.entries value) }
         requires fixed { V.fixed value ≡ self.now.fixed }
         ensures pass { pass.new ≡ record pass.old { seen = V.entries value; turns = pass.old.turns ++ length (V.entries value) ∷ []; has_turn = false } }
-        ensures own { own_of V.by pass.new ≡ own_of V.by pass.old ++ drop (length pass.old.seen) (V.entries value) }
+        ensures own { (new : List V.Entry) → V.entries value ≡ pass.old.seen ++ new → own_of V.by pass.new ≡ own_of V.by pass.old ++ new }
     {
         let shared = &self.table.shared;
         let len = value.len();
@@ -144,13 +142,13 @@ impl<V: Historied> Turnstile<V> {
         shared.fetch_add::<Publish<V>>(&mut pass.seat, COUNT, more);
         pass.seen = len;
         let ended = shared.fetch_add::<Serve>(&mut pass.seat, SERVING, 1);
-        self.call_next(ended.wrapping_add(1));
+        self.wake_next(ended.wrapping_add(1));
     }
 
-    // Wakes the sleepers where a ticket is out that is served now or later.
-    fn call_next(&self, serving: u64) {
+    // Wakes the waiter whose ticket is served now. A ticket that is not taken yet needs no waking: who takes it looks first.
+    fn wake_next(&self, serving: u64) {
         if self.table.shared.peek(TICKET) != serving {
-            self.table.shared.wake_all(SERVING);
+            self.waiters.wake(serving);
         }
     }
 
@@ -161,10 +159,16 @@ impl<V: Historied> Turnstile<V> {
         requires outside { All (λ p. p.has_turn ≡ false) passes.items }
         ensures begins { All (λ p. IsPrefix p.seen (V.entries result)) passes.items }
         ensures own { All (λ p. own V.by p.number (V.entries result) ≡ own_of V.by p) passes.items }
+        ensures every { (i : ℕ) → i < self.passes → IsTold V.by (V.entries result) passes.items i }
         ensures numbers { All (λ e. V.by e < self.passes) (V.entries result) }
         ensures fixed { V.fixed result ≡ self.fixed }
     {
-        let Turnstile { table, maker } = self;
+        let Turnstile {
+            table,
+            maker,
+            waiters,
+        } = self;
+        drop(waiters);
         let mut maker = maker.into_seat::<Option<V>>();
         for pass in passes {
             let Pass {
@@ -181,8 +185,9 @@ impl<V: Historied> Turnstile<V> {
         value
     }
 
-    /// A law, and no work: what holds between any two steps, of any threads, at this turnstile.
-    pub fn between_steps(&self)
-        ensures { (s : State (Option V) (View V.Entry V.Fixed)) → Kept V.entries V.by V.fixed self.now.fixed self.now.passes s → BetweenSteps V.entries V.by V.fixed self.now.fixed self.now.passes s }
+    /// A law, and no work: what holds between any two steps, of any threads, in each state that the rule of a turnstile's
+    /// table allows. The table has the value and the number of passes that it was made with as its key.
+    pub fn between_steps()
+        ensures { (start : Start V) (s : State (Option V) (View V.Entry V.Fixed)) → ⟦<Queue<V> as TableRule<Option<V>, View<V::Entry, V::Fixed>, Start<V>>>⟧.holds start s → BetweenSteps V.entries V.by V.fixed (V.fixed start.value.value) start.passes s }
     {}
 }

@@ -6,6 +6,7 @@ use Rattle.std.proofs.lemmas.Bool.{cases_eq}
 use Rattle.std.proofs.lemmas.Option.{slice_get-get_or}
 use Rattle.std.proofs.lemmas.List.Elements.{All-take, All-drop}
 use Rattle.pair_cost.specs.declared.candidate.Candidate.{Candidate}
+use Rattle.pair_cost.specs.declared.candidate.Frame.{Frame}
 use Rattle.group_pairing.specs.Groups.{IsGroup}
 use Rattle.wave.specs.Rankings.{IsRanking}
 use Rattle.wave.specs.Plans.{rank_of, last_rank, group}
@@ -45,14 +46,16 @@ last_below (row ∷ rows) most all =
     omega (arith, last, here)
 
 -- each group is one that a solver takes
-pub group_is : (rows : List Candidate) (k : ℕ) → IsRanking rows → IsGroup (group rows k) (last_rank rows)
-group_is rows k r = record {
-  few = omega (arith, length-take 14 (drop (14 * k) rows));
-  ranked = AllPairs-take (λ (a b : Candidate). a.rank < b.rank) 14 (drop (14 * k) rows) (AllPairs-drop (λ (a b : Candidate). a.rank < b.rank) (14 * k) rows r.ranked);
-  within = All-take (λ (row : Candidate). row.rank ≤ last_rank rows) 14 (drop (14 * k) rows) (All-drop (λ (row : Candidate). row.rank ≤ last_rank rows) (14 * k) rows (ranks_within rows r.ranked));
-  places = last_below rows 999 r.places;
-  rated = All-take (λ (row : Candidate). row.rating ≤ 4000) 14 (drop (14 * k) rows) (All-drop (λ (row : Candidate). row.rating ≤ 4000) (14 * k) rows r.rated);
-}
+pub group_is : (rows : List Candidate) (f : Frame) (k : ℕ) → IsRanking rows → f.max ≡ last_rank rows → IsGroup (group rows k) f
+group_is rows f k r greatest =
+    let places = last_below rows 999 r.places in
+    record {
+      few = omega (arith, length-take 14 (drop (14 * k) rows));
+      ranked = AllPairs-take (λ (a b : Candidate). a.rank < b.rank) 14 (drop (14 * k) rows) (AllPairs-drop (λ (a b : Candidate). a.rank < b.rank) (14 * k) rows r.ranked);
+      within = subst (λ n. All (λ (row : Candidate). row.rank ≤ n) (group rows k)) (sym greatest) (All-take (λ (row : Candidate). row.rank ≤ last_rank rows) 14 (drop (14 * k) rows) (All-drop (λ (row : Candidate). row.rank ≤ last_rank rows) (14 * k) rows (ranks_within rows r.ranked)));
+      places = omega (arith, places, greatest);
+      rated = All-take (λ (row : Candidate). row.rating ≤ 4000) 14 (drop (14 * k) rows) (All-drop (λ (row : Candidate). row.rating ≤ 4000) (14 * k) rows r.rated);
+    }
 
 -- each group begins within the rows
 pub group_inside : (n k : ℕ) → k < div_ceil n 14 → 14 * k < n

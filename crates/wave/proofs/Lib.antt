@@ -1,4 +1,6 @@
 pub mod Cuts
-pub mod Pairs
+pub mod Ranges
+pub mod Solved
 pub mod Drawn
 pub mod Players
+pub mod Everyone

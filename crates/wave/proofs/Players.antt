@@ -1,6 +1,6 @@
--- The players of a plan are players of its rows, each once.
+-- The players of a plan are players of its rows, each once: in one pair, or left alone.
 use Rattle.std.specs.Prelude.{Option, Some, None, All, AllPairs}
-use Rattle.std.proofs.Common.{◌≡◌, ◌≢◌, ℕ, zero, suc, ◌+◌, ◌*◌, ◌<◌, ◌≤◌, ⊎_elim, Bool, true, false, cond, nat_lt, int_le, List, [], ◌∷◌, length, take, drop, slice_get, slice_index, refl, sym, ◌∙◌, ap, subst, subst₂, arith, ltb-true, zero-add, suc-add}
+use Rattle.std.proofs.Common.{◌≡◌, ◌≢◌, ℕ, zero, suc, ◌+◌, ◌*◌, ◌<◌, ◌≤◌, ◌⊎◌, ⊎_elim, Bool, true, false, cond, ◌==◌, nat_lt, eqb-true, int_le, List, [], ◌∷◌, length, take, drop, slice_get, slice_index, refl, sym, ◌∙◌, ap, subst, subst₂, arith, ltb-true, zero-add, suc-add}
 use Rattle.std.proofs.lemmas.Bool.{cases_lt}
 use Rattle.std.proofs.lemmas.Option.{get_or_from_slice_get}
 use Rattle.std.proofs.lemmas.List.{length-map, get_or-map}
@@ -8,15 +8,14 @@ use Rattle.pair_cost.specs.declared.candidate.Candidate.{Candidate}
 use Rattle.pair_cost.specs.declared.candidate.Pair.{Pair}
 use Rattle.pair_cost.specs.Colours.{colours}
 use Rattle.group_pairing.specs.Least.{least}
-use Rattle.group_pairing.proofs.Places.{Met, paired_from}
-use Rattle.group_pairing.proofs.LeastList.{least_is_list}
-use Rattle.wave.specs.Plans.{pair_of, pair_at, pairs, first_pairs, group, last_rank, plan}
-use Rattle.wave.specs.Players.{IsOfRows, IsApart, HasPlayer}
+use Rattle.group_pairing.specs.Lists.{HasPartner}
+use Rattle.wave.specs.Plans.{frame, pair_of, pair_at, player_of, alone_at, pairs, alone, first_pairs, first_alone, planned_pairs, planned_alone, group}
+use Rattle.wave.specs.Players.{IsOfRows, IsApart, IsOutside, HasPlayer}
 use Rattle.wave.proofs.Drawn.{all_drawn, pairs_drawn, all_joined, pairs_joined}
 
 -- what stands at a place of a part
 
-inside_of : (rows : List Candidate) (i : ℕ) (a : Candidate) → slice_get rows i ≡ Some a → i < length rows
+pub inside_of : (rows : List Candidate) (i : ℕ) (a : Candidate) → slice_get rows i ≡ Some a → i < length rows
 inside_of [] i a at = cc
 inside_of (row ∷ rows) zero a at = omega arith
 inside_of (row ∷ rows) (suc i) a at = let rest = inside_of rows i a at in omega (arith, rest)
@@ -27,7 +26,7 @@ got_take (suc n) [] i a at = cc
 got_take (suc n) (row ∷ rows) zero a at = (omega arith, at)
 got_take (suc n) (row ∷ rows) (suc i) a at = let rest = got_take n rows i a at in (omega (arith, rest.0), rest.1)
 
-got_drop : (n : ℕ) (rows : List Candidate) (i : ℕ) → slice_get (drop n rows) i ≡ slice_get rows (n + i)
+pub got_drop : (n : ℕ) (rows : List Candidate) (i : ℕ) → slice_get (drop n rows) i ≡ slice_get rows (n + i)
 got_drop zero rows i = ap (slice_get rows) (sym (zero-add i))
 got_drop (suc n) [] i = refl
 got_drop (suc n) (row ∷ rows) i = got_drop n rows i ∙ ap (slice_get (row ∷ rows)) (sym (suc-add n i))
@@ -115,7 +114,7 @@ has_player rows i a at = (
 )
 
 -- the two are the players, in one order or the other
-by_colours : (P : Pair → Type 0) (a b : Candidate) → P (record { white = a.player; black = b.player }) → P (record { white = b.player; black = a.player }) → P (colours a b)
+pub by_colours : (P : Pair → Type 0) (a b : Candidate) → P (record { white = a.player; black = b.player }) → P (record { white = b.player; black = a.player }) → P (colours a b)
 by_colours P a b straight turned =
     elim (int_le a.balance b.balance) as (λ t. P (cond t (record { white = a.player; black = b.player }) (record { white = b.player; black = a.player }))) [ true ↦ straight | false ↦ turned ]
 
@@ -142,19 +141,72 @@ apart_of rows k i j l m n x y differ f g im in_ jm jn =
     (record { whites = bc; white_black = bd; black_white = ac; blacks = ad })
     (record { whites = bd; white_black = bc; black_white = ad; blacks = ac })))
 
-module _ (rows : List Candidate) (differ : Differ rows) where
+-- a player of group k, at place i of all rows
+pub record FromRow (rows : List Candidate) (k i player : ℕ) : Type 0 where
+  pub a : Candidate
+  pub at : slice_get rows i ≡ Some a
+  pub low : 14 * k ≤ i
+  pub high : i < 14 * k + 14
+  pub is : a.player ≡ player
+
+record One (o : Option Candidate) (player : ℕ) : Type 0 where
+  pub a : Candidate
+  pub at : o ≡ Some a
+  pub is : a.player ≡ player
+
+one_of : (o : Option Candidate) (player : ℕ) → player_of o ≡ Some player → One o player
+one_of None player h = cc
+one_of (Some a) player h = record { a = a; at = refl; is = cc }
+
+only_of : (t : Bool) (o : Option ℕ) (player : ℕ) → cond t o None ≡ Some player → (t ≡ true) × (o ≡ Some player)
+only_of true o player h = (refl, h)
+only_of false o player h = cc
+
+-- the player whom place i of group k leaves alone
+record Left (rows : List Candidate) (to : List ℕ) (k i player : ℕ) : Type 0 where
+  pub nobody : slice_index to i ≡ 14
+  pub row_of : FromRow rows k (14 * k + i) player
+
+left_of : (rows : List Candidate) (to : List ℕ) (k i player : ℕ) → alone_at (group rows k) to i ≡ Some player → Left rows to k i player
+left_of rows to k i player at =
+    let chosen = only_of (slice_index to i == 14) (player_of (slice_get (group rows k) i)) player at in
+    let one = one_of (slice_get (group rows k) i) player chosen.1 in
+    let got = got_take 14 (drop (14 * k) rows) i one.a one.at in
+    record {
+      nobody = eqb-true (slice_index to i) 14 chosen.0;
+      row_of = record {
+        a = one.a;
+        at = sym (got_drop (14 * k) rows i) ∙ got.1;
+        low = omega arith;
+        high = omega (arith, got.0);
+        is = one.is;
+      };
+    }
+
+outside_of : (rows : List Candidate) (k i j m l : ℕ) (x : Pair) (player : ℕ) → Differ rows → FromRows rows k i j x → FromRow rows m l player → i ≢ l → j ≢ l → IsOutside x player
+outside_of rows k i j m l x player differ f g il jl =
+    let al = players_differ rows i l f.a g.a differ il f.first g.at in
+    let bl = players_differ rows j l f.b g.a differ jl f.second g.at in
+    subst₂ (λ (y : Pair) p. IsOutside y p) f.is g.is
+    (by_colours (λ y. IsOutside y g.a.player) f.a f.b (record { not_white = al; not_black = bl }) (record { not_white = bl; not_black = al }))
+
+-- in the least list of each group each place has nobody, or a partner
+abbrev pub EachPlaced : ℕ → List Candidate → Type 0
+EachPlaced rule rows = (k i : ℕ) → i < length (group rows k)
+    → (slice_index (least (group rows k) (frame rule rows)) i ≡ 14) ⊎ HasPartner (group rows k) (least (group rows k) (frame rule rows)) i
+
+module _ (rule : ℕ) (rows : List Candidate) (differ : Differ rows) (each : EachPlaced rule rows) where
   -- the least list of group k
   abbrev list : ℕ → List ℕ
-  list k = least (group rows k) (last_rank rows)
+  list k = least (group rows k) (frame rule rows)
 
-  -- in a partner list a partner's partner is oneself
+  -- a partner's partner is oneself
   back : (k i : ℕ) (x : Pair) → Placed rows (list k) k i x → slice_index (list k) (slice_index (list k) i) ≡ i
   back k i x p =
-      let paired = paired_from (group rows k) (list k) (least_is_list (group rows k) (last_rank rows)) in
       ⊎_elim
       (λ (nobody : slice_index (list k) i ≡ 14). absurd (omega (arith, nobody, p.rows_of.high_second)))
-      (λ (met : Met (group rows k) (list k) i). met.back)
-      (paired.each i (omega (arith, p.up, p.inside)))
+      (λ (met : HasPartner (group rows k) (list k) i). met.back)
+      (each k i (omega (arith, p.up, p.inside)))
 
   group_apart : (k : ℕ) → AllPairs IsApart (pairs (group rows k) (list k))
   unfolding pairs
@@ -192,8 +244,8 @@ module _ (rows : List Candidate) (differ : Differ rows) where
       (λ e. omega (arith, e, up, p.high_second, q.low_first))
       (λ e. omega (arith, e, up, p.high_second, q.low_second))))
 
-  pub plan_apart : AllPairs IsApart (plan rows)
-  unfolding first_pairs
+  pub plan_apart : AllPairs IsApart (planned_pairs rule rows)
+  unfolding planned_pairs first_pairs
   plan_apart = pairs_joined IsApart (λ k. pairs (group rows k) (list k)) 0 _ group_apart groups_apart
 
   group_of_rows : (k : ℕ) → All (IsOfRows rows) (pairs (group rows k) (list k))
@@ -202,6 +254,80 @@ module _ (rows : List Candidate) (differ : Differ rows) where
       all_drawn (IsOfRows rows) (pair_at (group rows k) (list k)) 0 (length (group rows k))
       (λ i x _ at. of_rows rows k (14 * k + i) (14 * k + slice_index (list k) i) x differ (placed_of rows (list k) k i x at).rows_of)
 
-  pub plan_of_rows : All (IsOfRows rows) (plan rows)
-  unfolding first_pairs
+  pub plan_of_rows : All (IsOfRows rows) (planned_pairs rule rows)
+  unfolding planned_pairs first_pairs
   plan_of_rows = all_joined (IsOfRows rows) (λ k. pairs (group rows k) (list k)) 0 _ (λ k _. group_of_rows k)
+
+  -- those who are left alone
+
+  left_of_rows : (k : ℕ) → All (HasPlayer rows) (alone (group rows k) (list k))
+  unfolding alone
+  left_of_rows k =
+      all_drawn (HasPlayer rows) (alone_at (group rows k) (list k)) 0 (length (group rows k))
+      (λ i player _ at.
+      let f = (left_of rows (list k) k i player at).row_of in
+      subst (HasPlayer rows) f.is (has_player rows (14 * k + i) f.a f.at))
+
+  pub alone_of_rows : All (HasPlayer rows) (planned_alone rule rows)
+  unfolding planned_alone first_alone
+  alone_of_rows = all_joined (HasPlayer rows) (λ k. alone (group rows k) (list k)) 0 _ (λ k _. left_of_rows k)
+
+  two_left : (k i m j p q : ℕ) → Left rows (list k) k i p → Left rows (list m) m j q → 14 * k + i ≢ 14 * m + j → p ≢ q
+  two_left k i m j p q a b apart =
+      let f = a.row_of in
+      let g = b.row_of in
+      subst₂ (λ (x y : ℕ). x ≢ y) f.is g.is (players_differ rows (14 * k + i) (14 * m + j) f.a g.a differ apart f.at g.at)
+
+  group_left_once : (k : ℕ) → AllPairs (λ (a b : ℕ). a ≢ b) (alone (group rows k) (list k))
+  unfolding alone
+  group_left_once k =
+      pairs_drawn (λ (a b : ℕ). a ≢ b) (alone_at (group rows k) (list k)) 0 (length (group rows k))
+      (λ i j p q up at there. two_left k i k j p q (left_of rows (list k) k i p at) (left_of rows (list k) k j q there) (λ e. omega (arith, e, up)))
+
+  groups_left_once : (k m : ℕ) → k < m → All (λ (a : ℕ). All (λ (b : ℕ). a ≢ b) (alone (group rows m) (list m))) (alone (group rows k) (list k))
+  unfolding alone
+  groups_left_once k m up =
+      all_drawn (λ (a : ℕ). All (λ (b : ℕ). a ≢ b) (alone (group rows m) (list m))) (alone_at (group rows k) (list k)) 0 (length (group rows k))
+      (λ i p _ at.
+      let a = left_of rows (list k) k i p at in
+      all_drawn (λ (b : ℕ). p ≢ b) (alone_at (group rows m) (list m)) 0 (length (group rows m))
+      (λ j q _ there.
+      let b = left_of rows (list m) m j q there in
+      let high = a.row_of.high in
+      let low = b.row_of.low in
+      two_left k i m j p q a b (λ e. omega (arith, e, up, high, low))))
+
+  pub alone_once : AllPairs (λ (a b : ℕ). a ≢ b) (planned_alone rule rows)
+  unfolding planned_alone first_alone
+  alone_once = pairs_joined (λ (a b : ℕ). a ≢ b) (λ k. alone (group rows k) (list k)) 0 _ group_left_once groups_left_once
+
+  -- the players of a pair have a partner, and so are not left alone
+  pair_outside : (k i m l player : ℕ) (x : Pair) → Placed rows (list k) k i x → Left rows (list m) m l player → IsOutside x player
+  pair_outside k i m l player x p a =
+      let f = p.rows_of in
+      let g = a.row_of in
+      let p_back = back k i x p in
+      outside_of rows k (14 * k + i) (14 * k + slice_index (list k) i) m (14 * m + l) x player differ f g
+      (λ e.
+      let same : k ≡ m = omega (arith, e, f.low_first, f.high_first, g.low, g.high) in
+      let place : i ≡ l = omega (arith, e, same) in
+      let nobody : slice_index (list k) i ≡ 14 = subst₂ (λ n o. slice_index (list n) o ≡ 14) (sym same) (sym place) a.nobody in
+      omega (arith, nobody, f.high_second))
+      (λ e.
+      let same : k ≡ m = omega (arith, e, f.low_second, f.high_second, g.low, g.high) in
+      let place : slice_index (list k) i ≡ l = omega (arith, e, same) in
+      let nobody : slice_index (list k) (slice_index (list k) i) ≡ 14 = subst₂ (λ n o. slice_index (list n) o ≡ 14) (sym same) (sym place) a.nobody in
+      omega (arith, nobody, p_back, f.high_first))
+
+  group_outside : (k : ℕ) → All (λ x. All (IsOutside x) (planned_alone rule rows)) (pairs (group rows k) (list k))
+  unfolding pairs planned_alone first_alone alone
+  group_outside k =
+      all_drawn (λ x. All (IsOutside x) (planned_alone rule rows)) (pair_at (group rows k) (list k)) 0 (length (group rows k))
+      (λ i x _ at.
+      all_joined (IsOutside x) (λ m. alone (group rows m) (list m)) 0 _
+      (λ m _. all_drawn (IsOutside x) (alone_at (group rows m) (list m)) 0 (length (group rows m))
+      (λ l player _ there. pair_outside k i m l player x (placed_of rows (list k) k i x at) (left_of rows (list m) m l player there))))
+
+  pub paired_or_alone : All (λ x. All (IsOutside x) (planned_alone rule rows)) (planned_pairs rule rows)
+  unfolding planned_pairs first_pairs
+  paired_or_alone = all_joined (λ x. All (IsOutside x) (planned_alone rule rows)) (λ k. pairs (group rows k) (list k)) 0 _ (λ k _. group_outside k)

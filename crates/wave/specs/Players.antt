@@ -1,7 +1,8 @@
 -- Who stands in a plan.
-use Rattle.std.specs.Prelude.{ℕ, ◌≢◌, List, map, Contains}
+use Rattle.std.specs.Prelude.{ℕ, ◌≡◌, ◌≢◌, ◌⊎◌, List, map, Any, Contains}
 use Rattle.pair_cost.specs.declared.candidate.Candidate.{Candidate}
 use Rattle.pair_cost.specs.declared.candidate.Pair.{Pair}
+use Rattle.wave.specs.Plans.{planned_pairs, planned_alone}
 
 -- a row is of the player with this number
 abbrev pub HasPlayer : List Candidate → ℕ → Type 0
@@ -19,3 +20,16 @@ pub record IsApart (a b : Pair) : Type 0 where
   pub white_black : a.white ≢ b.black
   pub black_white : a.black ≢ b.white
   pub blacks : a.black ≢ b.black
+
+-- the player is neither of a pair
+pub record IsOutside (pair : Pair) (player : ℕ) : Type 0 where
+  pub not_white : pair.white ≢ player
+  pub not_black : pair.black ≢ player
+
+-- the player is one of a pair
+abbrev pub IsIn : Pair → ℕ → Type 0
+IsIn pair player = (pair.white ≡ player) ⊎ (pair.black ≡ player)
+
+-- the player stands in a pair of the plan, or is left alone
+abbrev pub IsPlanned : ℕ → List Candidate → ℕ → Type 0
+IsPlanned rule rows player = Any (λ pair. IsIn pair player) (planned_pairs rule rows) ⊎ Contains (planned_alone rule rows) player

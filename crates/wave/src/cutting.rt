@@ -1,7 +1,7 @@
-ghost use Rattle.std.specs.Prelude.{◌≡◌, ◌*◌, ◌<◌, length};
-ghost use Rattle.wave.specs.Plans.{group, last_rank};
+ghost use Rattle.std.specs.Prelude.{◌≡◌, ◌*◌, ◌<◌, ◌≤◌, length};
+ghost use Rattle.wave.specs.Plans.{group, frame};
 
-use pair_cost::Candidate;
+use pair_cost::{Candidate, Frame};
 
 /// How many rows a group has, but for the last.
 pub(crate) const GROUP: usize = 14;
@@ -16,12 +16,18 @@ pub(crate) fn group(rows: &[Candidate], number: usize) -> &[Candidate]
     &rest[..rest.len().min(GROUP)]
 }
 
-// The greatest rank of all.
-pub(crate) fn last_rank(rows: &[Candidate]) -> u32
-    ensures { result ≡ last_rank rows.now }
+// What holds for all groups of these rows.
+pub(crate) fn frame(rule: u32, rows: &[Candidate]) -> Frame
+    requires { length rows.now ≤ 1000 }
+    ensures { result ≡ frame rule rows.now }
 {
-    match rows.last() {
+    let max = match rows.last() {
         Some(row) => row.rank,
         None => 0,
+    };
+    Frame {
+        max,
+        idle: rows.len() as u32,
+        rule,
     }
 }

@@ -1,44 +1,81 @@
-ghost use Rattle.std.specs.Prelude.{◌≡◌, ◌≤◌, ◌<◌, ◌++◌, length, OnOk, AllPairs};
+ghost use Rattle.std.specs.Prelude.{◌≡◌, ◌≤◌, ◌<◌, ◌++◌, length, OnOk, IfOk, AllPairs, option_to_list};
 ghost use Rattle.pair_cost.specs.declared.candidate.Candidate.{Candidate};
-ghost use Rattle.group_pairing.specs.Groups.{IsGroup, list_of};
-ghost use Rattle.group_pairing.specs.Least.{least};
-ghost use Rattle.wave.specs.Plans.{pairs, pair_at};
+ghost use Rattle.group_pairing.specs.Groups.{list_of};
+ghost use Rattle.wave.specs.Answers.{HoldsAnswers};
+ghost use Rattle.wave.specs.Plans.{pairs, alone, pair_at, alone_at, first_pairs, first_alone, group_count};
+ghost use Rattle.wave.specs.Rankings.{IsRanking};
 
-use group_pairing::{Partners, Solve};
-use pair_cost::{Candidate, Pair, colours};
-use std::alloc::AllocError;
+use crate::cutting::group;
+use group_pairing::Partners;
+use pair_cost::{Candidate, Frame, Pair, colours};
+use std::alloc::{AllocError, Global};
 
-// Adds the pairs of the group's least list.
-pub(crate) fn add_group<V: Solve>(
-    found: &mut Vec<Pair>,
-    solver: &mut V,
-    rows: &[Candidate],
-    max: u32,
-) -> Result<(), AllocError>
-    requires { IsGroup rows.now max }
-    ensures { OnOk result (found.new.items ≡ found.old.items ++ pairs rows.now (least rows.now max)) }
-{
-    let partners = solver.solve(rows, max);
-    add_pairs(found, rows, &partners)
+/// Nobody, in place of a partner's place.
+const NOBODY: usize = 14;
+
+/// The pairs of groups and whom they leave alone, group by group.
+#[derive(Debug, Drop)]
+pub(crate) struct Listed {
+    pub(crate) pairs: Vec<Pair>,
+    pub(crate) alone: Vec<u32>,
 }
 
-// Adds the pairs of these partners.
-fn add_pairs(
+// What the answers of all groups say of the players.
+pub(crate) fn list_groups(
+    alloc: Global,
+    rows: &[Candidate],
+    f: &Frame,
+    answers: &[Partners],
+) -> Result<Listed, AllocError>
+    requires rows { IsRanking rows.now }
+    requires answers { HoldsAnswers rows.now f.now 0 (group_count rows.now) answers.now }
+    ensures pairs { IfOk result (λ made. made.pairs.items ≡ first_pairs rows.now f.now (group_count rows.now)) }
+    ensures alone { IfOk result (λ made. made.alone.items ≡ first_alone rows.now f.now (group_count rows.now)) }
+{
+    let mut pairs = Vec::new(alloc);
+    let mut alone = Vec::new(alloc);
+    for number in 0..answers.len() {
+        add_group(
+            &mut pairs,
+            &mut alone,
+            group(rows, number),
+            &answers[number],
+        )?;
+    }
+    Ok(Listed { pairs, alone })
+}
+
+// Adds the pairs of a group, and whom it leaves alone.
+fn add_group(
     found: &mut Vec<Pair>,
+    left: &mut Vec<u32>,
     rows: &[Candidate],
     partners: &Partners,
 ) -> Result<(), AllocError>
     requires few { length rows.now ≤ 14 }
     requires len { partners.now.len ≡ length rows.now }
     requires ranked { AllPairs (λ (a b : Candidate). a.rank < b.rank) rows.now }
-    ensures { OnOk result (found.new.items ≡ found.old.items ++ pairs rows.now (list_of partners.now)) }
+    ensures pairs { OnOk result (found.new.items ≡ found.old.items ++ pairs rows.now (list_of partners.now)) }
+    ensures alone { OnOk result (left.new.items ≡ left.old.items ++ alone rows.now (list_of partners.now)) }
 {
     for place in 0..rows.len() {
-        if let Some(pair) = pair_at(rows, partners, place) {
-            found.push(pair)?;
-        }
+        push_some(found, pair_at(rows, partners, place))?;
+        push_some(left, alone_at(rows, partners, place))?;
     }
     Ok(())
+}
+
+// Adds the item, if there is one.
+fn push_some<T: Drop>(list: &mut Vec<T>, item: Option<T>) -> Result<(), AllocError>
+    ensures { OnOk result (list.new.items ≡ list.old.items ++ option_to_list item) }
+{
+    match item {
+        Some(item) => {
+            list.push(item)?;
+            Ok(())
+        }
+        None => Ok(()),
+    }
 }
 
 // The pair of this place, if its partner has a later place.
@@ -53,6 +90,21 @@ fn pair_at(rows: &[Candidate], partners: &Partners, place: usize) -> Option<Pair
     let partner = usize::from(to[place]);
     if place < partner && partner < rows.len() {
         Some(colours(&rows[place], &rows[partner]))
+    } else {
+        None
+    }
+}
+
+// The player of this place, if he has nobody.
+fn alone_at(rows: &[Candidate], partners: &Partners, place: usize) -> Option<u32>
+    requires few { length rows.now ≤ 14 }
+    requires len { partners.now.len ≡ length rows.now }
+    requires place { place < length rows.now }
+    ensures { result ≡ alone_at rows.now (list_of partners.now) place }
+{
+    let to = partners.to;
+    if usize::from(to[place]) == NOBODY {
+        Some(rows[place].player)
     } else {
         None
     }

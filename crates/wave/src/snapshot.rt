@@ -12,15 +12,19 @@ pub struct Snapshot {
     pub last_wave: Option<u64>,
     /// How many games run.
     pub running: u32,
+    /// The rule of pairing, 1 or 2.
+    pub rule: u32,
     /// The idle players in rank order.
     pub rows: List<Candidate>,
 }
 
-/// The pairs that a wave is to start.
+/// The pairs that a wave is to start, and whom it leaves alone.
 #[derive(Debug, Drop)]
 pub struct Plan {
     /// How many entries its snapshot is of.
     pub n: u64,
     /// The pairs of one group after another, and those of a group by their better ranked players.
     pub pairs: List<Pair>,
+    /// The numbers of the players who have nobody, in rank order.
+    pub alone: List<u32>,
 }

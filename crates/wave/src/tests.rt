@@ -4,8 +4,8 @@ ghost use Rattle.wave.specs.Rankings.{IsRanking};
 
 use crate::{Plan, Snapshot, plan};
 use conn::List;
-use group_pairing::Bench;
-use pair_cost::{Candidate, Pair};
+use group_pairing::{Bench, Partners, Solve};
+use pair_cost::{Candidate, Frame, Pair};
 use std::alloc::{AllocError, Global};
 use std::test::Fail;
 use std::thread::Threads;
@@ -48,7 +48,8 @@ fn all_better(rows: &[Candidate], rank: u32) -> bool
     rows.iter().all(|row| row.rank < rank)
 }
 
-/// So many players in rank order, each ten points behind the one before him, with a balance that is 1 at odd numbers.
+/// So many players in rank order, each ten points behind the one before him, with a balance that is 1 at odd numbers. Of each
+/// two neighbours each has met the other last. Every third one has been left alone, and by more waves the worse his rank is.
 fn players(alloc: Global, count: u32, team: Option<u32>) -> Result<Vec<Candidate>, AllocError> {
     let mut rows = Vec::new(alloc);
     for player in 0..count {
@@ -56,68 +57,102 @@ fn players(alloc: Global, count: u32, team: Option<u32>) -> Result<Vec<Candidate
             player,
             rank: player,
             rating: 4000 - 10 * (player % 400),
-            last: None,
+            last: Some(player ^ 1),
             balance: if player % 2 == 0 { 0 } else { 1 },
             team,
+            alone: if player % 3 == 0 { player } else { 0 },
         })?;
     }
     Ok(rows)
 }
 
-/// The plan of these rows by so many solvers, or nothing where they are no ranking.
-fn planned<R: Threads + Sync>(
-    rt: &R,
-    alloc: Global,
-    solvers: usize,
-    rows: Vec<Candidate>,
-) -> Result<Option<Plan>, AllocError> {
-    let mut benches = Vec::new(alloc);
-    for _ in 0..solvers {
-        benches.push(Bench::new(alloc)?)?;
-    }
-    let snapshot = Snapshot {
+/// A snapshot of these rows.
+fn snapshot(rule: u32, rows: Vec<Candidate>) -> Snapshot {
+    Snapshot {
         n: 7,
         stamp: 0,
         last_wave: None,
         running: 0,
+        rule,
         rows: List::of(rows),
-    };
-    if !benches.is_empty() && is_ranking(snapshot.rows.items()) {
-        Ok(Some(plan(rt, alloc, benches.as_mut_slice(), &snapshot)?))
+    }
+}
+
+/// The plan of a snapshot by these solvers, or nothing where its rows are no ranking.
+fn planned<R: Threads + Sync, V: Solve + Send>(
+    rt: &R,
+    alloc: Global,
+    solvers: &mut [V],
+    snapshot: &Snapshot,
+) -> Result<Option<Plan>, AllocError> {
+    if !solvers.is_empty() && is_ranking(snapshot.rows.items()) {
+        Ok(Some(plan(rt, alloc, solvers, snapshot)?))
     } else {
         Ok(None)
     }
 }
 
-/// How many of so many players, in a team or in none, are paired.
-const COUNTS: [(u32, Option<u32>, usize); 9] = [
-    (0, None, 0),
-    (1, None, 0),
-    (2, None, 1),
-    (13, None, 6),
-    (14, None, 7),
+/// A bench that counts how often it is called.
+#[derive(Drop)]
+struct Counted {
+    bench: Bench,
+    calls: u32,
+}
+
+impl Solve for Counted {
+    fn solve(&mut self, rows: &[Candidate], f: &Frame) -> Partners {
+        self.calls = self.calls.wrapping_add(1);
+        self.bench.solve(rows, f)
+    }
+}
+
+fn benches(alloc: Global, count: usize) -> Result<Vec<Counted>, AllocError> {
+    let mut made = Vec::new(alloc);
+    for _ in 0..count {
+        let bench = Bench::new(alloc)?;
+        let counted = Counted { bench, calls: 0 };
+        made.push(counted)?;
+    }
+    Ok(made)
+}
+
+/// How many players, in a team or in none, under which rule; how many pairs they make and how many are left alone.
+const COUNTS: [(u32, Option<u32>, u32, usize, usize); 12] = [
+    (0, None, 1, 0, 0),
+    (1, None, 1, 0, 1),
+    (2, None, 1, 1, 0),
+    // of each other's last opponents two meet again where they are all who are idle
+    (2, None, 2, 1, 0),
+    (13, None, 2, 6, 1),
+    (14, None, 1, 7, 0),
     // the fifteenth is a group of his own
-    (15, None, 7),
-    (16, None, 8),
-    (16, Some(0), 0),
-    (29, None, 14),
+    (15, None, 1, 7, 1),
+    (16, None, 1, 8, 0),
+    // and the sixteenth his last opponent
+    (16, None, 2, 7, 2),
+    (16, Some(0), 1, 0, 16),
+    (29, None, 1, 14, 1),
+    (29, None, 2, 14, 1),
 ];
 
 #[test]
 fn groups_are_of_fourteen(rt: HostRuntime) -> Result<(), Fail> {
     let alloc = rt.alloc();
-    for (count, team, pairs) in COUNTS {
-        let rows = players(alloc, count, team)?;
-        let plan = planned(&rt, alloc, 1, rows)?.ok_or("no ranking")?;
+    let mut solvers = benches(alloc, 1)?;
+    for (count, team, rule, pairs, alone) in COUNTS {
+        let idle = snapshot(rule, players(alloc, count, team)?);
+        let plan = planned(&rt, alloc, solvers.as_mut_slice(), &idle)?.ok_or("no ranking")?;
         assert_eq!(rt; plan.n, 7);
-        assert_eq!(rt; plan.pairs.items().len(), pairs, "{count} players");
-        // the fifteenth player meets the sixteenth, or nobody
-        let last = plan
-            .pairs
-            .items()
-            .iter()
-            .any(|pair| pair.white == 14 || pair.black == 14);
-        assert_eq!(rt; last, count > 15 && team.is_none(), "{count} players");
+        assert_eq!(rt;
+            plan.pairs.items().len(),
+            pairs,
+            "{count} players under {rule}"
+        );
+        assert_eq!(rt;
+            plan.alone.items().len(),
+            alone,
+            "{count} players under {rule}"
+        );
     }
     Ok(())
 }
@@ -125,23 +160,64 @@ fn groups_are_of_fourteen(rt: HostRuntime) -> Result<(), Fail> {
 #[test]
 fn pairs_stand_in_order_with_their_colours(rt: HostRuntime) -> Result<(), Fail> {
     let alloc = rt.alloc();
+    let mut solvers = benches(alloc, 2)?;
     let mut rows = players(alloc, 4, None)?;
     assert_eq!(rt; rows.len(), 4);
-    // the third has had White less often than the fourth, and the second less often than the first
+    // none is a rematch; the third has had White less often than the fourth, and the second less often than the first
+    for row in rows.iter_mut() {
+        row.last = None;
+    }
     rows[0].balance = 2;
-    let plan = planned(&rt, alloc, 2, rows)?.ok_or("no ranking")?;
+    let idle = snapshot(1, rows);
+    let plan = planned(&rt, alloc, solvers.as_mut_slice(), &idle)?.ok_or("no ranking")?;
     let want = [Pair { white: 1, black: 0 }, Pair { white: 2, black: 3 }];
     assert_eq!(rt; plan.pairs.items(), want.as_slice());
     Ok(())
 }
 
 #[test]
-fn any_number_of_solvers_gives_the_same_plan(rt: HostRuntime) -> Result<(), Fail> {
+fn those_left_alone_stand_in_rank_order(rt: HostRuntime) -> Result<(), Fail> {
     let alloc = rt.alloc();
-    let one = planned(&rt, alloc, 1, players(alloc, 40, None)?)?.ok_or("no ranking")?;
-    for solvers in [2, 8] {
-        let more = planned(&rt, alloc, solvers, players(alloc, 40, None)?)?.ok_or("no ranking")?;
-        assert_eq!(rt; one.pairs.items(), more.pairs.items(), "{solvers} solvers");
+    let mut solvers = benches(alloc, 3)?;
+    // three groups, each of one team but for a player without a team, whom one of the others meets
+    let mut rows = players(alloc, 41, None)?;
+    for row in rows.iter_mut() {
+        row.team = if row.rank % 14 == 3 {
+            None
+        } else {
+            Some(row.rank / 14)
+        };
+        row.player = row.rank.wrapping_add(100);
+    }
+    let idle = snapshot(1, rows);
+    let plan = planned(&rt, alloc, solvers.as_mut_slice(), &idle)?.ok_or("no ranking")?;
+    assert_eq!(rt; plan.pairs.items().len(), 3);
+    let mut last = 0;
+    for player in plan.alone.items() {
+        assert!(rt; last < *player, "{last} before {player}");
+        last = *player;
+    }
+    assert_eq!(rt; plan.alone.items().len(), 35);
+    Ok(())
+}
+
+#[test]
+fn a_thousand_players_have_one_plan_by_any_solvers(rt: HostRuntime) -> Result<(), Fail> {
+    let alloc = rt.alloc();
+    for rule in [1, 2] {
+        let idle = snapshot(rule, players(alloc, 1000, None)?);
+        let mut one = benches(alloc, 1)?;
+        let plan = planned(&rt, alloc, one.as_mut_slice(), &idle)?.ok_or("no ranking")?;
+        assert_eq!(rt; plan.pairs.items().len(), 500);
+        for count in [2, 8] {
+            let mut solvers = benches(alloc, count)?;
+            let more = planned(&rt, alloc, solvers.as_mut_slice(), &idle)?.ok_or("no ranking")?;
+            assert_eq!(rt; more.pairs.items(), plan.pairs.items(), "{count} solvers");
+            assert_eq!(rt; more.alone.items(), plan.alone.items(), "{count} solvers");
+            for solver in &solvers {
+                assert!(rt; solver.calls > 0, "{count} solvers");
+            }
+        }
     }
     Ok(())
 }

@@ -1,11 +1,11 @@
 ghost use Rattle.std.specs.Prelude.{◌≤◌};
 ghost use Rattle.group_pairing.specs.Groups.{IsGroup};
 
-use pair_cost::{Candidate, cost};
+use pair_cost::{Candidate, Frame, charge, cost};
 
 /// The first of the partner lists that leave fewest alone and of these cost least, found by trying all lists in order.
-pub(crate) fn least_by_trying_all(rows: &[Candidate], max: u32) -> [u8; 14]
-    requires { IsGroup rows.now max }
+pub(crate) fn least_by_trying_all(rows: &[Candidate], f: &Frame) -> [u8; 14]
+    requires { IsGroup rows.now f.now }
 {
     let base = rows.len() as u32 + 1;
     let mut words = 1u32;
@@ -16,7 +16,7 @@ pub(crate) fn least_by_trying_all(rows: &[Candidate], max: u32) -> [u8; 14]
     let mut least = None;
     for word in 0..words {
         let to = spelled(word, rows.len());
-        if let Some(weight) = weighed(rows, max, &to) {
+        if let Some(weight) = weighed(rows, f, &to) {
             if is_less(weight, least) {
                 least = Some(weight);
                 best = to;
@@ -49,9 +49,9 @@ fn spelled(word: u32, places: usize) -> [u8; 14]
     to
 }
 
-// How many the list leaves alone and what its pairs cost, if it is a partner list.
-fn weighed(rows: &[Candidate], max: u32, to: &[u8; 14]) -> Option<(u32, u64)>
-    requires { IsGroup rows.now max }
+// How many the list leaves alone, and what these and its pairs cost, if it is a partner list.
+fn weighed(rows: &[Candidate], f: &Frame, to: &[u8; 14]) -> Option<(u32, u64)>
+    requires { IsGroup rows.now f.now }
 {
     let mut alone = 0u32;
     let mut total = 0u64;
@@ -59,12 +59,13 @@ fn weighed(rows: &[Candidate], max: u32, to: &[u8; 14]) -> Option<(u32, u64)>
         let partner = usize::from(to[place]);
         if partner == 14 {
             alone = alone.wrapping_add(1);
+            total = total.wrapping_add(charge(&rows[place], f));
             continue;
         }
         if partner >= rows.len() || partner == place || usize::from(to[partner]) != place {
             return None;
         }
-        let price = cost(&rows[place], &rows[partner], max)?;
+        let price = cost(&rows[place], &rows[partner], f)?;
         if place < partner {
             total = total.wrapping_add(price);
         }

@@ -2,7 +2,7 @@ ghost use Rattle.std.specs.Prelude.{IsTrue, ◌<◌, ◌≤◌, All, AllPairs};
 ghost use Rattle.pair_cost.specs.declared.candidate.Candidate.{Candidate};
 ghost use Rattle.group_pairing.specs.Groups.{IsGroup};
 
-use pair_cost::Candidate;
+use pair_cost::{Candidate, Frame};
 use std::alloc::{AllocError, Global};
 
 /// A candidate whose rank is his number.
@@ -19,16 +19,17 @@ pub(crate) const fn candidate(
         last,
         balance: 0,
         team,
+        alone: 0,
     }
 }
 
 /// Whether the rows are a group that a solver takes.
-pub(crate) fn is_group(rows: &[Candidate], max: u32) -> bool
-    ensures { IsTrue result → IsGroup rows.now max }
+pub(crate) fn is_group(rows: &[Candidate], f: &Frame) -> bool
+    ensures { IsTrue result → IsGroup rows.now f.now }
 {
     let few = rows.len() <= 14;
-    let places = max <= 999;
-    few && places && are_within(rows, max) && are_rated(rows) && fall_behind(rows)
+    let places = f.max <= 999;
+    few && places && are_within(rows, f.max) && are_rated(rows) && fall_behind(rows)
 }
 
 fn are_within(rows: &[Candidate], max: u32) -> bool
@@ -61,7 +62,8 @@ fn all_better(rows: &[Candidate], rank: u32) -> bool
     rows.iter().all(|row| row.rank < rank)
 }
 
-/// A group of so many rows made from a number: few ratings, two teams, and last opponents, so that costs are often alike.
+/// A group of so many rows made from a number: few ratings, two teams, last opponents and counts of
+/// waves that left them alone, so that costs are often alike.
 pub(crate) fn some_group(
     alloc: Global,
     size: u32,
@@ -87,6 +89,11 @@ pub(crate) fn some_group(
                 Some(draw / 256 % 2)
             } else {
                 None
+            },
+            alone: if draw / 16 % 2 == 0 {
+                0
+            } else {
+                40 * (draw / 32 % 4)
             },
         };
         rows.push(row)?;

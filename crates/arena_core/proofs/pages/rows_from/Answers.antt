@@ -6,6 +6,6 @@ use Rattle.arena_core.proofs.pages.rows_from.Goals as goal
 
 pub returns : goal.returns
 returns c =
-    let lines = c.args.table.now.lines in
-    let start : c.min-from.result ≡ min (length lines) (10 * c.args.k) = omega (arith, c.min-from.ensures, c.saturating_mul.ensures, c.len.ensures, c.len.type_inv) in
-    IfOk-weaker c.page.result (λ v. v.items ≡ page c.min-from.result 10 lines) (λ v. v.items ≡ page (10 * c.args.k) 10 lines) (λ v is. is ∙ page_from_cut lines (10 * c.args.k) c.min-from.result 10 start) c.page.ensures
+    let lines = c.args.people.now.scores.lines in
+    let start : c.min-from.result ≡ min (length lines) (10 * c.args.k) = omega (arith, c.min-from.ensures, c.saturating_mul.ensures, c.entered.ensures, c.entered.type_inv) in
+    IfOk-weaker c.page.result (λ v. v.items ≡ page c.min-from.result 10 lines) (λ v. v.items ≡ page (10 * c.args.k) 10 lines) (λ v is. is ∙ page_from_cut c.rows_are_the_lines.ensures.players lines (10 * c.args.k) c.min-from.result 10 start) c.page.ensures

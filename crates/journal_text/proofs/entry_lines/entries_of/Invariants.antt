@@ -1,12 +1,13 @@
-use Rattle.std.proofs.Common.{◌≡◌, ◌≤◌, [], length, vec_len}
+use Rattle.std.proofs.Common.{◌≡◌, ◌+◌, ◌≤◌, ◌^◌, length}
 use Rattle.journal_text.specs.Lines.{lines_of}
-use Rattle.journal_text.specs.Reading.{entries_in}
+use Rattle.journal_text.specs.EntryForms.{no_entries}
+use Rattle.journal_text.specs.Reading.{InEntries, run}
 use Rattle.journal_text.proofs.entry_lines.entries_of.Given as goal
 
 abbrev pub invariant-lines : goal.invariant-lines
 invariant-lines l = record {
-  goes_on : entries_in l.teams l.players l.entries.items (lines_of l.rest) ≡ entries_in l.teams l.players [] (lines_of l.text);
-  most : vec_len l.entries ≤ 8000000;
+  goes_on : run (InEntries l.head l.teams l.players l.«record») l.number (lines_of l.rest) ≡ run (InEntries l.head l.teams l.players no_entries) l.first (lines_of l.text);
+  placed : l.number + length l.rest ≤ 2 ^ 63;
 }
 
 abbrev pub decreases-lines : goal.decreases-lines

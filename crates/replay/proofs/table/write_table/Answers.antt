@@ -2,7 +2,7 @@ use Rattle.std.proofs.Common.{◌≡◌, ◌++◌, [], length, ap, ◌∙◌}
 use Rattle.std.specs.List.{flat_map}
 use Rattle.entries.specs.declared.setup.Setup.{Setup}
 use Rattle.history.specs.Table.{standings, team_standings}
-use Rattle.arena_core.specs.Held.{past}
+use Rattle.first_arena.specs.Held.{past}
 use Rattle.replay.specs.Table.{row_line, team_row_line, count_line, table}
 use Rattle.replay.proofs.Lines.{rows_have_players}
 use Rattle.replay.proofs.TeamLines.{rows_have_teams}

@@ -1,23 +1,21 @@
-use Rattle.std.proofs.Common.{ℕ, List, ◌++◌, sym, ◌∙◌, ap₂, subst, subst₂}
+use Rattle.std.proofs.Common.{List, ◌∙◌, ap}
 use Rattle.pair_cost.specs.declared.candidate.Candidate.{Candidate}
-use Rattle.group_pairing.specs.Groups.{IsGroup}
-use Rattle.group_pairing.specs.Least.{least}
-use Rattle.wave.specs.Plans.{pairs}
-use Rattle.wave.specs.Rankings.{IsRanking}
-use Rattle.wave.proofs.Cuts.{group_is}
-use Rattle.wave.proofs.Pairs.{no_groups, one_group_more}
+use Rattle.pair_cost.specs.declared.candidate.Frame.{Frame}
+use Rattle.wave.specs.Plans.{frame, group_count, first_pairs, first_alone, planned_pairs, planned_alone}
 use Rattle.wave.proofs.planning.plan.Goals as goal
 
-pub loop-number-init : goal.loop-number-init
-loop-number-init g c = c.new-pairs.ensures.items ∙ sym (no_groups c.items-rows.result.now)
+pub returns-clause-pairs : goal.returns-clause-pairs
+unfolding planned_pairs
+returns-clause-pairs g c =
+    c.of.ensures
+    ∙ c.in_ok-pairs.ensures.pairs
+    ∙ ap (λ (f : Frame). first_pairs c.items-rows.result.now f (group_count c.items-rows.result.now)) c.frame-f.ensures
+    ∙ ap (λ (rows : List Candidate). first_pairs rows (frame c.args.s.now.rule rows) (group_count rows)) c.items-rows.ensures
 
-pub add_group-requires : goal.add_group-requires
-add_group-requires g c =
-    let ranking : IsRanking c.items-rows.result.now = subst (λ rows. IsRanking rows) (sym c.items-rows.ensures) c.requires.rows in
-    subst₂ (λ rows max. IsGroup rows max) (sym c.group.ensures) (sym c.last_rank-max.ensures) (group_is c.items-rows.result.now c.loop-number.number ranking)
-
-pub loop-number-preserved : goal.loop-number-preserved
-loop-number-preserved g c =
-    c.in_ok-add_group.ensures
-    ∙ ap₂ (λ a b. a ++ b) c.loop-number.invariant (ap₂ (λ (rows : List Candidate) (max : ℕ). pairs rows (least rows max)) c.group.ensures c.last_rank-max.ensures)
-    ∙ sym (one_group_more c.items-rows.result.now c.loop-number.number)
+pub returns-clause-alone : goal.returns-clause-alone
+unfolding planned_alone
+returns-clause-alone g c =
+    c.of-2.ensures
+    ∙ c.in_ok-pairs.ensures.alone
+    ∙ ap (λ (f : Frame). first_alone c.items-rows.result.now f (group_count c.items-rows.result.now)) c.frame-f.ensures
+    ∙ ap (λ (rows : List Candidate). first_alone rows (frame c.args.s.now.rule rows) (group_count rows)) c.items-rows.ensures

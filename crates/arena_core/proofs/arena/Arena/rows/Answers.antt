@@ -1,16 +1,18 @@
 use Rattle.std.proofs.Common.{◌≡◌, ◌∙◌, ap, subst}
+use Rattle.arena_core.specs.Held.{Held, past}
 use Rattle.std.specs.Prelude.{IfOk}
 use Rattle.std.proofs.lemmas.Result.{IfOk-weaker}
-use Rattle.ranking.specs.Rows.{Listed, rows}
-use Rattle.history.specs.History.{history}
-use Rattle.history.specs.Table.{standings}
-use Rattle.arena_core.specs.Held.{Held, past}
+use Rattle.ranking.specs.Rows.{rows}
+use Rattle.arena_history.specs.Table.{standings}
+use Rattle.arena_history.specs.Waves.{history}
+use Rattle.arena_core.proofs.Shown.{lines_kept}
 use Rattle.arena_core.proofs.arena.Arena.rows.Goals as goal
 
 pub returns : goal.returns
 unfolding standings
 returns c =
-    let a = c.self.inside in
-    subst (λ (x : Held). IfOk c.all_rows.result (λ v. v.items ≡ standings x.setup (past x))) c.self.view_is (
-    IfOk-weaker c.all_rows.result (λ v. v.items ≡ rows a.table.lines) (λ v. v.items ≡ standings a.setup (history a.setup a.entries.items)) (λ v is. is ∙ ap (λ (t : Listed). rows t.lines) c.self.invariant.listed) c.all_rows.ensures
+    let b = c.self.inside.book in
+    let h = history b.setup b.entries in
+    subst (λ (x : Held). IfOk c.rows.result (λ v. v.items ≡ standings x.setup (past x))) c.self.view_is (
+    IfOk-weaker c.rows.result (λ v. v.items ≡ rows c.self.inside.people.scores.lines) (λ v. v.items ≡ standings b.setup h) (λ v is. is ∙ ap rows (lines_kept c.laws_of_histories.ensures b.setup h c.self.inside.people c.self.invariant.people)) c.rows.ensures
     )

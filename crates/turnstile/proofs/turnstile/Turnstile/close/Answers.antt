@@ -59,3 +59,6 @@ returns-clause-numbers g c = (handed_back g c).numbers
 
 pub returns-clause-fixed : goal.returns-clause-fixed
 returns-clause-fixed g c = (handed_back g c).fixed_is
+
+pub returns-clause-every : goal.returns-clause-every
+returns-clause-every g c = (handed_back g c).every

@@ -5,7 +5,7 @@ use Rattle.turnstile.specs.Passes.{own_of}
 use Rattle.turnstile.specs.Steps.{carried_history}
 use Rattle.turnstile.specs.Views.{ticket_of}
 use Rattle.turnstile.proofs.Hands.{in_turn}
-use Rattle.turnstile.proofs.Own.{own_only}
+use Rattle.turnstile.proofs.Own.{own_gains}
 use Rattle.turnstile.proofs.Publishing.{publishes}
 use Rattle.turnstile.proofs.Seats.{some_is}
 use Rattle.turnstile.proofs.Serving.{serves}
@@ -66,4 +66,5 @@ pub returns-clause-pass : goal.returns-clause-pass
 returns-clause-pass g c = search rules
 
 pub returns-clause-own : goal.returns-clause-own
-returns-clause-own g c = ap (own_of g.V.Historied.by) (returns-clause-pass g c) ∙ own_only g.V.Historied.by c.args.pass.now.number c.args.pass.now.seen (g.V.Historied.entries c.args.value) c.requires.history
+returns-clause-own g c new is =
+    ap (own_of g.V.Historied.by) (returns-clause-pass g c) ∙ own_gains g.V.Historied.by c.args.pass.now.number c.args.pass.now.seen (g.V.Historied.entries c.args.value) new c.requires.history is

@@ -7,6 +7,7 @@ use Rattle.turnstile.specs.Steps.{newcomer, one_more_made}
 use Rattle.turnstile.specs.Views.{maker_view}
 use Rattle.turnstile.proofs.Hands.{same_state}
 use Rattle.turnstile.proofs.Making.{starts, cuts}
+use Rattle.turnstile.proofs.Newcomers.{numbers_new, of_new, outside_new, unused_new}
 use Rattle.turnstile.proofs.turnstile.Turnstile.new.Goals as goal
 
 pub new-requires : goal.new-requires
@@ -52,3 +53,21 @@ loop-number-preserved g c =
       items ∙ ((λ i. kept.2 i ++ pass i ∷ []) ∙ sym more),
       (search rules),
     )
+
+pub returns-clause-passes : goal.returns-clause-passes
+returns-clause-passes g c = search rules
+
+pub returns-clause-len : goal.returns-clause-len
+returns-clause-len g c = ap length (returns-clause-passes g c) ∙ length-map-range_with_len _ 0 c.args.passes
+
+pub returns-clause-numbers : goal.returns-clause-numbers
+returns-clause-numbers g c = numbers_new _ _ _ (returns-clause-passes g c)
+
+pub returns-clause-of : goal.returns-clause-of
+returns-clause-of g c = of_new _ _ _ (returns-clause-passes g c)
+
+pub returns-clause-outside : goal.returns-clause-outside
+returns-clause-outside g c = outside_new _ _ _ (returns-clause-passes g c)
+
+pub returns-clause-unused : goal.returns-clause-unused
+returns-clause-unused g c = unused_new _ _ _ (returns-clause-passes g c)

@@ -1,0 +1,25 @@
+use Rattle.std.proofs.Common.{◌≡◌, sym, subst, arith, true}
+use Rattle.std.specs.Prelude.{nat_le}
+use Rattle.seats.specs.Places.{may_leave}
+use Rattle.arena_core.specs.People.{standing}
+use Rattle.arena_core.specs.Written.{written_past}
+use Rattle.arena_core.proofs.Heeded.{kept_left, may_from_leave}
+use Rattle.arena_core.proofs.Placed.{length_places, wish_kept}
+use Rattle.arena_core.proofs.wishing.leave.Goals as goal
+
+pub leave-requires-clause-player : goal.leave-requires-clause-player
+leave-requires-clause-player c =
+    let b = c.args.book.now in
+    omega (arith, c.requires.player, length_places c.laws_of_histories.ensures b.setup (written_past b) c.args.people.now c.requires.kept.people)
+
+pub leave-requires-clause-may : goal.leave-requires-clause-may
+leave-requires-clause-may c =
+    let b = c.args.book.now in
+    let wish = wish_kept c.laws_of_histories.ensures b.setup (written_past b) c.args.people.now c.requires.kept.people c.args.p c.requires.player in
+    subst (λ w. may_leave w ≡ true) (sym wish) (may_from_leave (nat_le b.setup.ends c.args.t) _ c.requires.granted)
+
+pub returns : goal.returns
+returns c =
+    λ pass.
+    let b = c.args.book.now in
+    kept_left c.laws_of_histories.ensures b.setup b.entries c.args.games.now c.args.people.now c.requires.kept c.args.t pass c.args.p _ (c.leave.ensures.stands b.setup (standing b.setup (written_past b)) c.requires.kept.people) c.leave.ensures.room

@@ -1,0 +1,11 @@
+pub mod Records
+pub mod Rooms
+pub mod Answered
+pub mod Items
+pub mod Listed
+pub mod Parts
+pub mod Told
+pub mod Looks
+pub mod Scans
+pub mod Outcomes
+pub mod Trials

@@ -1,0 +1,9 @@
+pub mod Courses
+pub mod Keeps
+pub mod KeptGames
+pub mod Answers
+pub mod Moments
+pub mod Beginnings
+pub mod Numbers
+pub mod Laws
+pub mod Trials

@@ -1,0 +1,10 @@
+pub mod Begins
+pub mod Entries
+pub mod Fresh
+pub mod Games
+pub mod Leaves
+pub mod Lists
+pub mod TableLines
+pub mod TableRows
+pub mod Walk
+pub mod Written

@@ -1,0 +1,15 @@
+pub mod Allowing
+pub mod Asked
+pub mod Bounds
+pub mod Causes
+pub mod Entrants
+pub mod Fair
+pub mod Headers
+pub mod Leaves
+pub mod Legality
+pub mod Plans
+pub mod Ranges
+pub mod Refused
+pub mod Stamps
+pub mod Starts
+pub mod Timed

@@ -1,5 +1,0 @@
-use Rattle.group_pairing.specs.Search.{HoldsOffers}
-use Rattle.group_pairing.proofs.offers.fill.Given as goal
-
-abbrev pub invariant-loop-cell : goal.invariant-loop-cell
-invariant-loop-cell l = HoldsOffers l.rows l.max l.table l.cell

@@ -1,0 +1,12 @@
+pub mod Answering
+pub mod Buffers
+pub mod Decimals
+pub mod Filling
+pub mod Firstly
+pub mod Firsts
+pub mod Lines
+pub mod Naming
+pub mod Pieces
+pub mod Searching
+pub mod Taking
+pub mod Talking

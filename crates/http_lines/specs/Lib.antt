@@ -1,0 +1,10 @@
+pub mod Fields
+pub mod First
+pub mod HeadEnd
+pub mod HeadLines
+pub mod Heads
+pub mod Laws
+pub mod Reader
+pub mod Response
+pub mod Steps
+pub mod Talk

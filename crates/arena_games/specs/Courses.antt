@@ -5,6 +5,7 @@ use Rattle.game_room.specs.declared.header.Header.{Header}
 use Rattle.game_room.specs.declared.outcome.Outcome.{Outcome}
 use Rattle.game_room.specs.Events.{Event, tick_at}
 use Rattle.game_room.specs.Games.{outcome, due}
+use Rattle.entries.specs.Limits.{max_entries}
 
 -- the course of a game: its header and its events
 pub record Course : Type 0 where
@@ -51,4 +52,4 @@ pub record IsPast (t : ℕ) (c : Course) : Type 0 where
 
 -- the game has fewer events than a room takes moves
 abbrev pub IsShort : Course → Type 0
-IsShort c = length c.events < 8000000
+IsShort c = length c.events < max_entries

@@ -9,6 +9,7 @@ ghost use Rattle.arena_games.specs.Courses.{Course, begun, goes_on, is_due, look
 ghost use Rattle.arena_games.specs.Keeps.{is_kept_due};
 ghost use Rattle.arena_games.specs.KeptGames.{IsTimely, MayGoOn, StandsFor};
 ghost use Rattle.arena_games.specs.Moments.{first_from, IsLookedAt};
+ghost use Rattle.entries.specs.Limits.{max_stamp};
 
 use crate::ended::GameEnd;
 use crate::kept::{Kept, act_in, allowed_in, is_due, look_in, new_game, outcome_of, view_of};
@@ -135,7 +136,7 @@ impl Games {
         t: u64,
     ) -> Result<Option<Outcome>, ActRefusal>
         requires begun { g < length self.old.games }
-        requires stamped { t ≤ 1000000000 }
+        requires stamped { t ≤ max_stamp }
         requires timely { MayGoOn self.old t }
         ensures answer { (games : List Course) (c : Course) → StandsFor self.old games → slice_get games g ≡ Some c
             → result ≡ act_answer c side action t }

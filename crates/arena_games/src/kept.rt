@@ -6,6 +6,7 @@ ghost use Rattle.arena_games.specs.Beginnings.{MayBegin};
 ghost use Rattle.arena_games.specs.Courses.{Course, begun, is_due, looked, outcome_of, with_event};
 ghost use Rattle.arena_games.specs.Keeps.{is_kept_due, KeptFor, runs};
 ghost use Rattle.arena_games.specs.Moments.{IsInTime, MayTakeAct};
+ghost use Rattle.entries.specs.Limits.{max_stamp};
 
 use crate::ended::EndedGame;
 use crate::laws::kept_games_stay;
@@ -61,7 +62,7 @@ pub fn act_in(
     action: Action,
     t: u64,
 ) -> Result<Option<Outcome>, ActRefusal>
-    requires stamped { t ≤ 1000000000 }
+    requires stamped { t ≤ max_stamp }
     requires in_time { MayTakeAct game.old t }
     ensures answer { (c : Course) → KeptFor game.old c → result ≡ act_answer c side action t }
     ensures stands { OnOk result ((c : Course) → KeptFor game.old c → KeptFor game.new (with_event (act_of side action t) c)) }

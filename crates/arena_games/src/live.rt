@@ -1,4 +1,5 @@
 ghost use Rattle.std.specs.Prelude.{◌≡◌, ◌↔◌, ◌<◌, ◌≤◌, ◌++◌, ◌∷◌, [], List, false, IsNone, IfOk, OnOk, OnErr};
+ghost use Rattle.entries.specs.Limits.{max_stamp, max_entries};
 ghost use Rattle.entries.specs.Ranges.{IsControl};
 ghost use Rattle.game_room.specs.declared.header.Header.{Header as GameHeader};
 ghost use Rattle.game_room.specs.Events.{Event, act_of, tick_at};
@@ -29,7 +30,7 @@ impl Live {
     /// The room of a game of which nothing has happened.
     pub fn new(alloc: Global, h: Header) -> Result<Live, AllocError>
         requires timed { IsControl h.control }
-        requires stamped { h.start ≤ 1000000000 }
+        requires stamped { h.start ≤ max_stamp }
         ensures { IfOk result (λ live. StandsFor live h []) }
     {
         Ok(Live {
@@ -47,8 +48,8 @@ impl Live {
     /// `Room::act` in it.
     pub fn act(&mut self, who: Colour, a: Action, t: u64) -> Result<Done, ActRefusal>
         requires in_turn { self.old.clocks.since ≤ t }
-        requires stamped { t ≤ 1000000000 }
-        requires room { self.old.clocks.moves < 8000000 }
+        requires stamped { t ≤ max_stamp }
+        requires room { self.old.clocks.moves < max_entries }
         ensures answer { (h : GameHeader) (events : List Event) → StandsFor self.old h events
             → result ≡ answer h events who a t }
         ensures accepted { OnOk result ((h : GameHeader) (events : List Event) → StandsFor self.old h events

@@ -1,4 +1,5 @@
 ghost use Rattle.std.specs.Prelude.{◌≡◌, ◌+◌, ◌<◌, ◌≤◌, IfOk, IfSome};
+ghost use Rattle.entries.specs.Limits.{max_stamp, max_entries};
 ghost use Rattle.entries.specs.Ranges.{IsControl};
 ghost use Rattle.arena_games.specs.Beginnings.{MayBegin};
 ghost use Rattle.arena_games.specs.Trials.{IsLooking, Lasts};
@@ -32,7 +33,7 @@ fn control(initial: u64, increment: u64) -> Control
 }
 
 fn header(id: u32, start: u64) -> Header
-    requires { start ≤ 1000000000 }
+    requires { start ≤ max_stamp }
     ensures may { MayBegin result }
     ensures start { result.start ≡ start }
 {
@@ -47,7 +48,7 @@ fn header(id: u32, start: u64) -> Header
 
 /// Games that begin at these moments, none of which is later than `now`.
 fn begun(alloc: Global, starts: [u64; 3], now: u64) -> Result<Games, AllocError>
-    requires now { now ≤ 1000000000 }
+    requires now { now ≤ max_stamp }
     ensures { IfOk result (λ games. Lasts games now 0) }
 {
     let mut games = Games::new(alloc);
@@ -72,8 +73,8 @@ fn act(
 ) -> Option<Result<Option<Outcome>, ActRefusal>>
     requires lasts { Lasts games.old now n }
     requires later { now ≤ t }
-    requires stamped { t ≤ 1000000000 }
-    requires few { n < 8000000 }
+    requires stamped { t ≤ max_stamp }
+    requires few { n < max_entries }
     ensures { Lasts games.new t (n + 1) }
 {
     if games.begun() <= 1 {
@@ -93,8 +94,8 @@ fn moved(
 ) -> Option<Result<Option<Outcome>, ActRefusal>>
     requires lasts { Lasts games.old now n }
     requires later { now ≤ t }
-    requires stamped { t ≤ 1000000000 }
-    requires few { n < 8000000 }
+    requires stamped { t ≤ max_stamp }
+    requires few { n < max_entries }
     ensures { Lasts games.new t (n + 1) }
 {
     let action = match read_move(word) {

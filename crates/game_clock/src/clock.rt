@@ -1,5 +1,6 @@
 ghost use Rattle.std.specs.Prelude.{◌≡◌, ◌≢◌, ℕ, ◌+◌, ◌-◌, ◌<◌, ◌≤◌, ◌++◌, ◌∷◌, [], List, false, if◌then◌else◌, ◌&&◌};
 ghost use Rattle.board.specs.Piece.{same_colour};
+ghost use Rattle.entries.specs.Limits.{max_stamp, max_entries};
 ghost use Rattle.entries.specs.Ranges.{IsControl};
 ghost use Rattle.entries.specs.declared.setup.Control.{Control as TimeControl};
 ghost use Rattle.game_clock.specs.ClockEvents.{ClockEvent, BerserkedBy, MovedAt, turn_of, has_moved};
@@ -28,11 +29,12 @@ impl Model for GameClock {
 
     ghost Value = { Clocks };
 
+    ghost use Rattle.entries.specs.Limits.{max_stamp, max_entries};
     ghost use Rattle.entries.specs.Ranges.{IsControl};
 
     ghost view = { λ c. record { control = c.control; since = c.since; moves = c.moves; white_bank = c.white_bank; black_bank = c.black_bank; white_berserk = c.white_berserk; black_berserk = c.black_berserk } };
 
-    ghost invariant = { λ c. IsControl c.control × (c.since ≤ 1000000000) × (c.moves ≤ 8000000) × (c.white_bank ≤ 10800000 + 180000 * c.moves) × (c.black_bank ≤ 10800000 + 180000 * c.moves) };
+    ghost invariant = { λ c. IsControl c.control × (c.since ≤ max_stamp) × (c.moves ≤ max_entries) × (c.white_bank ≤ 10800000 + 180000 * c.moves) × (c.black_bank ≤ 10800000 + 180000 * c.moves) };
 }
 
 impl GameClock {
@@ -40,7 +42,7 @@ impl GameClock {
     #[tactic(auto, using(crate::proofs::MoreEvents::clocks_new))]
     pub fn new(c: &Control, start: u64) -> GameClock
         requires timed { IsControl c.now }
-        requires stamped { start ≤ 1000000000 }
+        requires stamped { start ≤ max_stamp }
         ensures { StandsFor result c.now start [] }
     {
         let bank = first_bank(c);
@@ -66,7 +68,7 @@ impl GameClock {
     /// When the turn began: the stamp of the last move, or the start.
     pub fn since(&self) -> u64
         ensures is { result ≡ self.now.since }
-        ensures most { result ≤ 1000000000 }
+        ensures most { result ≤ max_stamp }
     {
         self.since
     }
@@ -74,7 +76,7 @@ impl GameClock {
     /// How many moves were made.
     pub fn moves(&self) -> u32
         ensures is { result ≡ self.now.moves }
-        ensures most { result ≤ 8000000 }
+        ensures most { result ≤ max_entries }
     {
         self.moves
     }
@@ -178,9 +180,9 @@ impl GameClock {
     #[tactic(auto, unfolding(crate::specs::Clocks::after_move), using(crate::proofs::MoreEvents::clocks_move))]
     pub fn moved(&mut self, t: u64)
         requires in_turn { self.old.since ≤ t }
-        requires stamped { t ≤ 1000000000 }
+        requires stamped { t ≤ max_stamp }
         requires in_time { is_due self.old t ≡ false }
-        requires room { self.old.moves < 8000000 }
+        requires room { self.old.moves < max_entries }
         ensures is { self.new ≡ after_move self.old t }
         ensures stands { (c : TimeControl) (start : ℕ) (events : List ClockEvent) → StandsFor self.old c start events
             → StandsFor self.new c start (events ++ MovedAt t ∷ []) }

@@ -1,10 +1,16 @@
 -- Which event ends a game, which moves were made, and what an outcome tells.
 use Rattle.std.proofs.Common.{Ok, ◌≡◌, ℕ, List, [], ◌∷◌, ◌++◌, length, cond, Bool, true, false, ◌||◌, ◌&&◌, Option, None, Some, refl, sym, ap, subst, ◌∙◌}
-use Rattle.std.specs.Prelude.{is_some, is_none}
+use Rattle.std.specs.Prelude.{is_some, is_none, nat_le}
 use Rattle.std.proofs.lemmas.List.{append-nil}
 use Rattle.std.proofs.lemmas.Bool.{and_parts}
+use Rattle.board.specs.declared.parts.Parts.{Parts}
 use Rattle.board.specs.declared.piece.Colour.{Colour}
 use Rattle.board.specs.declared.piece.Colour.TheVariants.{White, Black}
+use Rattle.board.specs.Piece.{other}
+use Rattle.move_rules.specs.declared.standing.State.{State}
+use Rattle.move_rules.specs.declared.standing.State.TheVariants.{Going, Mate, Stalemate}
+use Rattle.move_rules.specs.Standing.{state_of}
+use Rattle.draw_rules.specs.Material.{dead_material, bare_king}
 use Rattle.game_line.specs.Line.{position_after}
 use Rattle.game_line.specs.Repetition.{times}
 use Rattle.game_line.specs.Quiet.{quiet}
@@ -12,18 +18,19 @@ use Rattle.game_line.proofs.Lists.{snoc_induction}
 use Rattle.entries.specs.declared.action.Action.{Action}
 use Rattle.entries.specs.declared.action.Action.TheVariants as action
 use Rattle.game_clock.specs.ClockEvents.{stamps, has_berserked}
-use Rattle.game_clock.specs.Clocks.{Clocks, clocks, is_due}
+use Rattle.game_clock.specs.Clocks.{Clocks, clocks, is_due, is_no_show}
 use Rattle.game_room.specs.declared.header.Header.{Header}
 use Rattle.game_room.specs.declared.ending.Ending.{Ending}
 use Rattle.game_room.specs.declared.outcome.Cause.{Cause}
+use Rattle.game_room.specs.declared.outcome.Cause.TheVariants as cause
 use Rattle.game_room.specs.declared.outcome.Outcome.{Outcome}
 use Rattle.game_room.specs.declared.refusal.ActRefusal.{ActRefusal}
 use Rattle.game_room.specs.Events.{Event, Acted, act_of}
-use Rattle.game_room.specs.Endings.{claim_cause, claim_ending, due_ending, outcome_at, outcome_if_ended}
+use Rattle.game_room.specs.Endings.{won, drawn, claim_cause, claim_ending, draw_after_move, ending_by_state, ending_after_move, due_ending, outcome_at, outcome_if_ended}
 use Rattle.game_room.specs.declared.refusal.ActRefusal.TheVariants as refused
 use Rattle.game_room.specs.Refusals.{own_refusal, refusal}
 use Rattle.game_room.specs.Games.{Game, new_game, standing_of, standing, game, moves, outcome, due, allowed, allowed_unless, settled, moved, ending_of, after_action, after_due, after_event}
-use Rattle.game_room.specs.Meanings.{IsDone, IsUnrefused, move_in, ends_by, EndingAt, OutcomeTells}
+use Rattle.game_room.specs.Meanings.{IsDone, IsUnrefused, move_in, ends_by, is_by_time, EndingAt, OutcomeTells}
 use Rattle.game_room.proofs.Steps.{game-push, after_event-due}
 use Rattle.game_room.proofs.Splits.{place_more}
 use Rattle.game_room.proofs.Stays.{ended_stays}
@@ -195,6 +202,95 @@ stamp_case h g e o (Looked going due look same) none ended = let off = sym (ap (
 stamp_case h g e o (Refused side a r going due act is same) none ended = let off = sym (ap (λ (x : Game). x.outcome) same) ∙ ended in cc
 stamp_case h g e o (Did side a going due act is same) none ended = stamp_after h g side a e.stamp o going (sym (ap (λ (x : Game). x.outcome) same) ∙ ended)
 
+-- an ending for which no time has passed by
+abbrev IsInTime : Option Ending → Type 0
+IsInTime e = (x : Ending) → e ≡ Some x → is_by_time x.cause ≡ false
+
+in_time_some : (x : Ending) → is_by_time x.cause ≡ false → IsInTime (Some x)
+in_time_some x free y same =
+    let is : x ≡ y = cc in
+    subst (λ (z : Ending). is_by_time z.cause ≡ false) is free
+
+in_time_none : IsInTime None
+in_time_none y same = cc
+
+in_time_if : (b : Bool) (x : Ending) (e : Option Ending) → is_by_time x.cause ≡ false → IsInTime e → IsInTime (cond b (Some x) e)
+in_time_if true x e free rest = in_time_some x free
+in_time_if false x e free rest = rest
+
+in_time_draw : (p : Parts) (times quiet : ℕ) → IsInTime (draw_after_move p times quiet)
+in_time_draw p times quiet =
+    in_time_if (dead_material p.cells) (drawn cause.Dead) _ refl
+    (in_time_if (nat_le 5 times) (drawn cause.Fivefold) _ refl
+    (in_time_if (nat_le 150 quiet) (drawn cause.SeventyFive) _ refl in_time_none))
+
+in_time_by_state : (s : State) (side : Colour) (d : Option Ending) → IsInTime d → IsInTime (ending_by_state s side d)
+in_time_by_state Mate side d rest = in_time_some (won side cause.Mate) refl
+in_time_by_state Stalemate side d rest = in_time_some (drawn cause.Stalemate) refl
+in_time_by_state Going side d rest = rest
+
+in_time_move : (p : Parts) (times quiet : ℕ) (side : Colour) → IsInTime (ending_after_move p times quiet side)
+unfolding ending_after_move
+in_time_move p times quiet side = in_time_by_state (state_of p) side (draw_after_move p times quiet) (in_time_draw p times quiet)
+
+in_time_claim : (times quiet : ℕ) → IsInTime (claim_ending (claim_cause times quiet))
+in_time_claim times quiet = claimed (nat_le 3 times) (nat_le 100 quiet) where
+  claimed : (three hundred : Bool) → IsInTime (claim_ending (cond three (Some cause.Threefold) (cond hundred (Some cause.Fifty) None)))
+  claimed true hundred = in_time_some (drawn cause.Threefold) refl
+  claimed false true = in_time_some (drawn cause.Fifty) refl
+  claimed false false = in_time_none
+
+in_time_outcome : (k : Clocks) (e : Option Ending) (t : ℕ) (o : Outcome) → IsInTime e → outcome_if_ended k e t ≡ Some o → is_by_time o.cause ≡ false
+in_time_outcome k None t o free h = cc
+in_time_outcome k (Some e) t o free h =
+    let same : outcome_at k e t ≡ o = cc in
+    subst (λ (x : Outcome). is_by_time x.cause ≡ false) same (free e refl)
+
+in_time_settled : (h : Header) (g : Game) (e : Option Ending) (t : ℕ) (o : Outcome) → IsInTime e → (settled h g e t).outcome ≡ Some o → is_by_time o.cause ≡ false
+unfolding settled
+in_time_settled h g e t o free ended = in_time_outcome (clocks h.control h.start g.clock) e t o free ended
+
+in_time_after : (h : Header) (g : Game) (side : Colour) (a : Action) (t : ℕ) (o : Outcome) → g.outcome ≡ None → (after_action h g side a t).outcome ≡ Some o → is_by_time o.cause ≡ false
+in_time_after h g side (action.Move m) t o going ended = in_time_settled h _ _ t o (in_time_move _ _ _ side) ended
+in_time_after h g side action.Resign t o going ended = in_time_settled h _ _ t o (in_time_some _ refl) ended
+in_time_after h g White action.Offer t o going ended = cc
+in_time_after h g Black action.Offer t o going ended = cc
+in_time_after h g side action.Accept t o going ended = in_time_settled h _ _ t o (in_time_some _ refl) ended
+in_time_after h g side action.Decline t o going ended = cc
+in_time_after h g side action.Claim t o going ended = in_time_settled h _ _ t o (in_time_claim (times g.moves) (quiet g.moves)) ended
+in_time_after h g side action.Berserk t o going ended = cc
+
+late_ending : (p : Parts) (k : Clocks) (t : ℕ) → is_by_time (due_ending p k t).cause ≡ true
+unfolding due_ending
+late_ending p k t = late (is_no_show k t) (bare_king p.cells (other p.turn)) where
+  late : (absent bare : Bool) → is_by_time (cond absent (won (other p.turn) cause.NoShow) (cond bare (drawn cause.Flag) (won (other p.turn) cause.Flag))).cause ≡ true
+  late true bare = refl
+  late false true = refl
+  late false false = refl
+
+late_due : (h : Header) (g : Game) (t : ℕ) (o : Outcome) → (after_due h g t).outcome ≡ Some o → is_by_time o.cause ≡ true
+unfolding settled
+late_due h g t o ended =
+    let p : Parts = position_after g.moves in
+    let k : Clocks = clocks h.control h.start g.clock in
+    let same : outcome_at k (due_ending p k t) t ≡ o = cc in
+    subst (λ (x : Outcome). is_by_time x.cause ≡ true) same (late_ending p k t)
+
+time_case : (h : Header) (g : Game) (e : Event) (o : Outcome) → StepCase h g e → g.outcome ≡ None → (after_event h g e).outcome ≡ Some o
+    → is_by_time o.cause ≡ (is_none g.outcome && is_due (clocks h.control h.start g.clock) e.stamp)
+time_case h g e o (WasOver p over same) none ended = cc
+time_case h g e o (WasDue going due same) none ended =
+    late_due h g e.stamp o (sym (ap (λ (x : Game). x.outcome) same) ∙ ended) ∙ sym (λ i. is_none (going i) && due i)
+time_case h g e o (Looked going due look same) none ended = let off = sym (ap (λ (x : Game). x.outcome) same) ∙ ended in cc
+time_case h g e o (Refused side a r going due act is same) none ended = let off = sym (ap (λ (x : Game). x.outcome) same) ∙ ended in cc
+time_case h g e o (Did side a going due act is same) none ended =
+    in_time_after h g side a e.stamp o going (sym (ap (λ (x : Game). x.outcome) same) ∙ ended) ∙ sym (λ i. is_none (going i) && due i)
+
+by_time : (h : Header) (events : List Event) (e : Event) (o : Outcome) → outcome h events ≡ None → outcome h (events ++ e ∷ []) ≡ Some o → is_by_time o.cause ≡ due h events e.stamp
+unfolding outcome due standing standing_of
+by_time h events e o going ended =
+    time_case h (game h events) e o (step_case h (game h events) e) going (sym (ap (λ (x : Game). x.outcome) (game-push h events e)) ∙ ended)
+
 nothing_ends : (h : Header) (o : Outcome) → outcome h [] ≡ Some o → EndingAt h [] o
 unfolding outcome game
 nothing_ends h o ended = cc
@@ -217,6 +313,7 @@ end_by h events e o (Some p) over before ended =
       went_on = found.went_on;
       ended = found.ended ∙ ap Some same;
       stamp = sym (ap (λ (x : Outcome). x.stamp) same) ∙ found.stamp;
+      by_time = sym (ap (λ (x : Outcome). is_by_time x.cause) same) ∙ found.by_time;
     }
 end_by h events e o None going before ended = record {
   before = events;
@@ -226,6 +323,7 @@ end_by h events e o None going before ended = record {
   went_on = going;
   ended = ended;
   stamp = stamp_case h (game h events) e o (step_case h (game h events) e) going (sym (ap (λ (x : Game). x.outcome) (game-push h events e)) ∙ ended);
+  by_time = by_time h events e o going ended;
 }
 
 pub one_event_ends : (h : Header) (events : List Event) (o : Outcome) → outcome h events ≡ Some o → EndingAt h events o

@@ -91,7 +91,7 @@ pub record DueGamesEnd : Type 0 where
       → let s = standing h events in
       outcome h (events ++ e ∷ []) ≡ Some (outcome_at s.clocks (due_ending s.position s.clocks e.stamp) e.stamp)
 
--- an outcome is that of one event, which ended the game
+-- an outcome is that of one event, which ended the game, and tells a fallen flag or a no-show exactly where the game was due
 abbrev pub OneEventEnds : Type 0
 OneEventEnds = (h : Header) (events : List Event) (o : Outcome) → outcome h events ≡ Some o → EndingAt h events o
 

@@ -8,6 +8,8 @@ use Rattle.game_line.specs.Quiet.{quiet}
 use Rattle.entries.specs.declared.action.Action.{Action}
 use Rattle.entries.specs.declared.action.Action.TheVariants as action
 use Rattle.game_room.specs.declared.header.Header.{Header}
+use Rattle.game_room.specs.declared.outcome.Cause.{Cause}
+use Rattle.game_room.specs.declared.outcome.Cause.TheVariants as cause
 use Rattle.game_room.specs.declared.outcome.Outcome.{Outcome}
 use Rattle.game_room.specs.Events.{Event, Deed, Acted, Ticked, act_of}
 use Rattle.game_room.specs.Endings.{ending_after_move}
@@ -61,7 +63,14 @@ pub record OutcomeTells (h : Header) (events : List Event) (o : Outcome) : Type 
   pub white_berserk : o.white_berserk ≡ (standing h events).clocks.white_berserk
   pub black_berserk : o.black_berserk ≡ (standing h events).clocks.black_berserk
 
--- the event that ended the game, whose stamp the outcome has
+-- the causes for which a game ends that is due: a fallen flag, and a first move that did not come
+abbrev pub is_by_time : Cause → Bool
+is_by_time cause.Flag = true
+is_by_time cause.NoShow = true
+is_by_time _ = false
+
+-- the event that ended the game, whose stamp the outcome has; its cause is a fallen flag or a no-show exactly where the game was
+-- due at that stamp
 pub record EndingAt (h : Header) (events : List Event) (o : Outcome) : Type 0 where
   pub before : List Event
   pub event : Event
@@ -70,3 +79,4 @@ pub record EndingAt (h : Header) (events : List Event) (o : Outcome) : Type 0 wh
   pub went_on : outcome h before ≡ None
   pub ended : outcome h (before ++ event ∷ []) ≡ Some o
   pub stamp : o.stamp ≡ event.stamp
+  pub by_time : is_by_time o.cause ≡ due h before event.stamp

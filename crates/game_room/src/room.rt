@@ -1,4 +1,5 @@
 ghost use Rattle.std.specs.Prelude.{◌≡◌, ◌↔◌, ◌<◌, ◌≤◌, ◌++◌, ◌∷◌, [], List, false, None, IsNone, OnOk, OnErr, if◌then◌else◌};
+ghost use Rattle.entries.specs.Limits.{max_stamp, max_entries};
 ghost use Rattle.entries.specs.Ranges.{IsControl};
 ghost use Rattle.game_clock.specs.Clocks.{is_due, left};
 ghost use Rattle.game_room.specs.declared.header.Header.{Header as GameHeader};
@@ -52,7 +53,7 @@ impl Room {
     /// The room of a game of which nothing has happened, with a control and a start in their ranges.
     pub fn new(h: Header) -> Room
         requires timed { IsControl h.control }
-        requires stamped { h.start ≤ 1000000000 }
+        requires stamped { h.start ≤ max_stamp }
         ensures { StandsFor result h [] }
     {
         let position = Position::start();
@@ -104,8 +105,8 @@ impl Room {
     /// otherwise its own refusals are tested in order.
     pub fn act(&mut self, who: Colour, a: Action, t: u64) -> Result<Done, ActRefusal>
         requires in_turn { self.old.clocks.since ≤ t }
-        requires stamped { t ≤ 1000000000 }
-        requires room { self.old.clocks.moves < 8000000 }
+        requires stamped { t ≤ max_stamp }
+        requires room { self.old.clocks.moves < max_entries }
         ensures answer { (h : GameHeader) (events : List Event) → StandsFor self.old h events
             → result ≡ answer h events who a t }
         ensures accepted { OnOk result ((h : GameHeader) (events : List Event) → StandsFor self.old h events
@@ -125,8 +126,8 @@ impl Room {
     fn accept(&mut self, who: Colour, a: &Action, t: u64) -> Done
         requires accepted { refusal (standing_in self.old) who a.now t ≡ None }
         requires in_turn { self.old.clocks.since ≤ t }
-        requires stamped { t ≤ 1000000000 }
-        requires room { self.old.clocks.moves < 8000000 }
+        requires stamped { t ≤ max_stamp }
+        requires room { self.old.clocks.moves < max_entries }
         ensures is { self.new ≡ room_after_act self.old who a.now t }
         ensures done { result ≡ done_with self.new.outcome a.now }
     {
@@ -138,8 +139,8 @@ impl Room {
     fn change(&mut self, who: Colour, a: &Action, t: u64)
         requires accepted { refusal (standing_in self.old) who a.now t ≡ None }
         requires in_turn { self.old.clocks.since ≤ t }
-        requires stamped { t ≤ 1000000000 }
-        requires room { self.old.clocks.moves < 8000000 }
+        requires stamped { t ≤ max_stamp }
+        requires room { self.old.clocks.moves < max_entries }
         ensures { self.new ≡ room_after_act self.old who a.now t }
     {
         if self.is_late(t) {

@@ -7,6 +7,7 @@ ghost use Rattle.game_room.specs.Endings.{claim_cause, claim_ending};
 ghost use Rattle.game_room.specs.Refusals.{own_refusal};
 ghost use Rattle.game_room.specs.Games.{offer_after_move};
 ghost use Rattle.game_room.specs.Held.{standing_in, room_settled, room_moved, room_offered, room_ending, room_after_action, room_after_due};
+ghost use Rattle.entries.specs.Limits.{max_stamp, max_entries};
 
 use super::Room;
 use super::refusals::is_offer_of;
@@ -81,9 +82,9 @@ fn play(room: &mut Room, side: Colour, m: Move, t: u64)
     requires going { room.old.outcome ≡ None }
     requires legal { IsTrue (legal room.old.position m) }
     requires in_turn { room.old.clocks.since ≤ t }
-    requires stamped { t ≤ 1000000000 }
+    requires stamped { t ≤ max_stamp }
     requires in_time { is_due room.old.clocks t ≡ false }
-    requires room { room.old.clocks.moves < 8000000 }
+    requires room { room.old.clocks.moves < max_entries }
     ensures { room.new ≡ room_settled (room_moved room.old side m t) (room_ending (room_moved room.old side m t) side) t }
 {
     let position = make(&room.position, m);
@@ -113,9 +114,9 @@ pub(crate) fn perform(room: &mut Room, side: Colour, action: &Action, t: u64)
     requires going { room.old.outcome ≡ None }
     requires accepted { own_refusal (standing_in room.old) side action.now ≡ None }
     requires in_turn { room.old.clocks.since ≤ t }
-    requires stamped { t ≤ 1000000000 }
+    requires stamped { t ≤ max_stamp }
     requires in_time { is_due room.old.clocks t ≡ false }
-    requires room { room.old.clocks.moves < 8000000 }
+    requires room { room.old.clocks.moves < max_entries }
     ensures { room.new ≡ room_after_action room.old side action.now t }
 {
     match action {

@@ -1,12 +1,12 @@
 -- The order of the teams is strict and total.
 use Rattle.std.proofs.Common.{◌≡◌, ⊎_elim, inl, inr, true, false, refl, sym, ap, ◌∙◌, Ordering, arith, ◌<◌}
-use Rattle.std.specs.Prelude.{◌==◌, ◌≢◌, ◌&&◌, ◌||◌, nat_lt, int_lt}
+use Rattle.std.specs.Prelude.{◌≢◌, nat_lt}
 use Rattle.std.specs.Cmp.{IsTotalOrder, IsStrictWeakOrder}
 use Rattle.std.specs.declared.cmp.Ordering.TheVariants.{Less, Equal, Greater}
-use Rattle.std.specs.Ordering.{nat_cmp, int_cmp, int_eq, is_lt, ordering_then, ordering_reverse}
+use Rattle.std.specs.Ordering.{nat_cmp, int_cmp, is_lt, ordering_then, ordering_reverse}
 use Rattle.std.proofs.lemmas.Bool.{cases_Bool, cases_order, both_ways, lt-ltb, le-ltb, ne_eqb}
 use Rattle.std.proofs.lemmas.Cmp.{nat_cmp_total, int_cmp_total, on_total, then_total, back_total}
-use Rattle.ranking.proofs.Before.{then-nat, then-int, is_lt-nat_cmp}
+use Rattle.ranking.proofs.Before.{is_lt-nat_cmp}
 use Rattle.ranking.proofs.Sorts.{order_of}
 use Rattle.team_battle.specs.declared.tally.Tally.{Tally}
 use Rattle.team_battle.specs.Compare.{tally_cmp}
@@ -17,14 +17,7 @@ pub tally_cmp_total : IsTotalOrder tally_cmp
 tally_cmp_total = then_total (back_total (on_total (λ (t : Tally). t.points) nat_cmp_total)) (then_total (back_total (on_total (λ (t : Tally). t.performance) int_cmp_total)) (on_total (λ (t : Tally). t.team) nat_cmp_total))
 
 pub above-cmp : (x y : Tally) → above x y ≡ is_lt (tally_cmp x y)
-above-cmp x y =
-    sym (
-    then-nat y.points x.points (ordering_then (int_cmp y.performance x.performance) (nat_cmp x.team y.team)) ∙
-    ap (λ t. nat_lt y.points x.points || ((x.points == y.points) && t)) (
-    then-int y.performance x.performance (nat_cmp x.team y.team) ∙
-    ap (λ t. int_lt y.performance x.performance || (int_eq x.performance y.performance && t)) (is_lt-nat_cmp x.team y.team)
-    )
-    )
+above-cmp x y = refl
 
 pub above_order : IsStrictWeakOrder above
 above_order = order_of above tally_cmp tally_cmp_total above-cmp

@@ -1,12 +1,13 @@
 -- What a team has, and the table of the teams.
-use Rattle.std.specs.Prelude.{ℕ, ℤ, suc, pos, negsuc, ◌==◌, ◌≤◌, ◌<◌, ◌+ℤ◌, ◌≤ℤ◌, ◌&&◌, ◌||◌, nat_lt, int_lt, Bool, false, List, [], ◌∷◌, length, map, filter, take, fold, sum_by, slice_get, Option, Some, None}
+use Rattle.std.specs.Prelude.{ℕ, ℤ, suc, pos, negsuc, ◌==◌, ◌≤◌, ◌<◌, ◌+ℤ◌, ◌≤ℤ◌, Bool, false, List, [], ◌∷◌, length, map, filter, take, fold, sum_by, slice_get, Option, Some, None}
 use Rattle.std.specs.List.{range_with_len}
 use Rattle.std.specs.Option.{option_and_then}
-use Rattle.std.specs.Ordering.{int_eq}
+use Rattle.std.specs.Ordering.{is_lt}
 use Rattle.entries.specs.declared.setup.Player.{Player}
 use Rattle.entries.specs.declared.setup.Setup.{Setup}
 use Rattle.ranking.specs.declared.row.Row.{Row}
 use Rattle.ranking.specs.Order.{in_order}
+use Rattle.team_battle.specs.Compare.{tally_cmp}
 use Rattle.team_battle.specs.declared.tally.Tally.{Tally}
 use Rattle.team_battle.specs.declared.team_row.TeamRow.{TeamRow}
 
@@ -57,9 +58,7 @@ tallies s rows = map (tally s rows) (range_with_len 0 (length s.teams))
 
 -- x has more points than y, or with as many a better performance, or with that the same too the smaller number
 abbrev pub above : Tally → Tally → Bool
-above x y =
-    nat_lt y.points x.points || ((x.points == y.points) &&
-    (int_lt y.performance x.performance || (int_eq x.performance y.performance && nat_lt x.team y.team)))
+above x y = is_lt (tally_cmp x y)
 
 -- the row of a team at a rank
 abbrev pub team_row : ℕ → Tally → TeamRow

@@ -1,52 +1,42 @@
-ghost use Rattle.std.specs.Prelude.{ℕ, ◌≡◌, ◌≢◌, ◌+◌, ◌<◌, ◌≤◌, List, [], ◌∷◌, ◌++◌, length, slice_get, IfOk, IfErr, IsOk, OnOk, OnErr, Err, None, Some};
+ghost use Rattle.std.specs.Prelude.{◌≡◌, ◌≢◌, ◌+◌, ◌≤◌, List, [], length, slice_get, IfOk, IsOk, OnOk, OnErr, Err, None, Some};
 ghost use Rattle.std.specs.Option.{option_map};
 ghost use Rattle.entries.specs.Limits.{max_stamp};
 ghost use Rattle.entries.specs.Ranges.{IsGood};
-ghost use Rattle.entries.specs.declared.journal.Entry.{Entry as JournalEntry};
-ghost use Rattle.arena_history.specs.Endings.{EndedGame, ended_by, finished};
+ghost use Rattle.arena_history.specs.Endings.{EndedGame, finished};
 ghost use Rattle.arena_history.specs.Games.{begun};
 ghost use Rattle.arena_history.specs.Snapshots.{snapshot};
 ghost use Rattle.arena_history.specs.Stamps.{last_stamp, stamp_of};
 ghost use Rattle.arena_history.specs.Table.{standings, team_standings};
-ghost use Rattle.arena_history.specs.Waves.{history, started};
-ghost use Rattle.arena_rules.specs.Answers.{answer_to, reply_to, shown_at};
-ghost use Rattle.arena_rules.specs.Commands.{CanBeNamed, IsCommandOf, entry_of};
-ghost use Rattle.arena_rules.specs.Commits.{Commits, IsPlanOf, commit_refusal, wave_entry};
+ghost use Rattle.arena_rules.specs.Commands.{IsCommandOf};
+ghost use Rattle.arena_rules.specs.Commits.{Commits, IsPlanOf};
 ghost use Rattle.arena_rules.specs.FairLaws.{IsFair};
-ghost use Rattle.arena_rules.specs.Legal.{AllowsWave, IsLegal};
+ghost use Rattle.arena_rules.specs.Legal.{IsLegal};
 ghost use Rattle.arena_rules.specs.Queries.{IsQueryOf};
 ghost use Rattle.arena_rules.specs.StartLaws.{journal_of};
-ghost use Rattle.arena_rules.specs.Verdicts.{verdict};
-ghost use Rattle.arena_rules.specs.Views.{arena_view, me_view};
 ghost use Rattle.arena_core.specs.Answers.{Answers, Tells, IsSmall};
 ghost use Rattle.arena_core.specs.Held.{past};
 
-use crate::asking::verdict;
+mod answers;
+mod commands;
+mod commits;
+
 use crate::book::Book;
 use crate::fault::{ApplyFault, QueryFault, told};
 use crate::laws::laws_of_histories;
-use crate::obeying::{obey, shows_named};
-use crate::pages::{entries_from, rows_from};
 use crate::people::People;
-use crate::starting::{begin_wave, prepare_wave, wave_refusal};
-use crate::views::{me_by, phase};
-use crate::waiting::count_waiting;
 use arena_games::Games;
-use arena_history::table_is_in_order;
 use arena_rules::{
-    Answer, ArenaView, Command, CommitFault, MeView, Query, Refusal, Reply, games_of_legal_lists,
-    legal_lists, legal_lists_are_fair, legal_lists_in_range, plans_of_entries,
-    tables_of_legal_lists, what_is_allowed,
+    Answer, Command, CommitFault, Query, Reply, legal_lists, legal_lists_are_fair,
+    legal_lists_in_range, tables_of_legal_lists,
 };
 use conn::List;
 use entries::{Entry, Journal, Setup, Start};
-use game_room::GameView;
 use ranking::Row;
 use std::alloc::{AllocError, Global};
 use std::marker::Model;
 use team_battle::{TeamRow, team_table};
 use turnstile::Historied;
-use wave::{Plan, Snapshot, each_player_once};
+use wave::{Plan, Snapshot};
 
 /// One arena. Contracts see its setup, its journal and how many entries more the journal has room for. Every arena has a
 /// good setup and a legal journal.
@@ -302,34 +292,6 @@ impl Arena {
         legal_lists_are_fair();
         self.book.keeps();
     }
-}
-
-// What commands are made of.
-impl Arena {
-    // What a command is answered, and does.
-    fn answer(&mut self, pass: u32, now: u64, c: Command) -> Result<Reply, ApplyFault>
-        requires { IsCommandOf (length self.old.setup.players) c }
-        ensures setup { self.new.setup ≡ self.old.setup }
-        ensures answer { Answers self.old.setup self.old.entries pass now c self.new.entries result }
-        ensures unchanged { OnErr result (self.new ≡ self.old) }
-        ensures memory { 1 ≤ self.old.spare → result ≢ Err ApplyFault.OutOfMemory }
-        ensures spare { self.old.spare ≤ self.new.spare + 1 }
-    {
-        shows_named(&c);
-        what_is_allowed();
-        let t = self.stamp(now);
-        if let Some(refusal) = self.verdict(t, &c) {
-            return Err(ApplyFault::Refused(refusal));
-        }
-        if self.reserve(1).is_err() {
-            return Err(ApplyFault::OutOfMemory);
-        }
-        let ended = self.obey(t, pass, &c);
-        match self.reply(t, &c, ended) {
-            Some(reply) => Ok(reply),
-            None => unreachable!(),
-        }
-    }
 
     // The stamp of what is done at this moment.
     fn stamp(&self, now: u64) -> u64
@@ -338,213 +300,5 @@ impl Arena {
         ensures most { result ≤ max_stamp }
     {
         self.book.stamp(now)
-    }
-
-    // None, or the first refusal of a command.
-    fn verdict(&self, t: u64, c: &Command) -> Option<Refusal>
-        requires not_before { last_stamp self.now.entries ≤ t }
-        requires player { IsCommandOf (length self.now.setup.players) c.now }
-        ensures { result ≡ verdict self.now.setup (past self.now) t c.now }
-    {
-        verdict(&self.book, &self.games, &self.people, t, c)
-    }
-
-    // Does what a command asks that is not refused, and adds its entry. Answers how many games it ends.
-    fn obey(&mut self, t: u64, pass: u32, c: &Command) -> u32
-        requires room { 1 ≤ self.old.spare }
-        requires not_before { last_stamp self.old.entries ≤ t }
-        requires most { t ≤ max_stamp }
-        requires player { IsCommandOf (length self.old.setup.players) c.now }
-        requires named { CanBeNamed c.now }
-        requires granted { verdict self.old.setup (past self.old) t c.now ≡ None }
-        ensures setup { self.new.setup ≡ self.old.setup }
-        ensures entries { self.new.entries ≡ self.old.entries ++ entry_of t pass c.now ∷ [] }
-        ensures spare { self.old.spare ≡ self.new.spare + 1 }
-        ensures ended { result ≡ length (ended_by self.old.setup (past self.old) (entry_of t pass c.now)) }
-    {
-        let ended = obey(&self.book, &mut self.games, &mut self.people, t, c);
-        self.book.add(t, pass, c);
-        ended
-    }
-
-    // The reply to a command whose entry is the last, and which ended so many games.
-    fn reply(&self, t: u64, c: &Command, ended: u32) -> Option<Reply>
-        requires not_before { last_stamp self.now.entries ≤ t }
-        requires player { IsCommandOf (length self.now.setup.players) c.now }
-        ensures { (es : List JournalEntry) (pass : ℕ) → self.now.entries ≡ es ++ entry_of t pass c.now ∷ []
-            → ended ≡ length (ended_by self.now.setup (history self.now.setup es) (entry_of t pass c.now))
-            → result ≡ reply_to self.now.setup (history self.now.setup es) t pass c.now }
-    {
-        laws_of_histories();
-        match *c {
-            Command::Enter(p) => Some(Reply::Me(self.me(p))),
-            Command::Pause(p) => Some(Reply::Me(self.me(p))),
-            Command::Leave(p) => Some(Reply::Me(self.me(p))),
-            Command::Act(_, g, _) => match self.shown(t, g) {
-                Some(view) => Some(Reply::Game(view)),
-                None => None,
-            },
-            Command::Tick => Some(Reply::Ticked(ended)),
-        }
-    }
-
-    // How many pairs of a plan a wave would start, or its first refusal.
-    fn waiting(&self, t: u64, plan: &Plan) -> Result<u32, CommitFault>
-        requires { IsPlanOf self.now.setup self.now.entries plan.now }
-        ensures count { IfOk result (λ count. count ≡ length (started self.now.setup (past self.now) plan.now.n)) }
-        ensures granted { OnOk result (commit_refusal self.now.setup (past self.now) t plan.now.n ≡ None) }
-        ensures refused { IfErr result (λ fault. commit_refusal self.now.setup (past self.now) t plan.now.n ≡ Some fault) }
-    {
-        self.book.keeps();
-        laws_of_histories();
-        legal_lists();
-        legal_lists_in_range();
-        tables_of_legal_lists();
-        plans_of_entries();
-        each_player_once();
-        let count = count_waiting(&self.people, plan);
-        match wave_refusal(&self.book, t, count) {
-            Some(fault) => Err(fault),
-            None => Ok(count as u32),
-        }
-    }
-
-    // What the commit of a plan is answered, and does.
-    fn commit_plan(
-        &mut self,
-        alloc: Global,
-        pass: u32,
-        now: u64,
-        plan: &Plan,
-    ) -> Result<u32, CommitFault>
-        requires { IsPlanOf self.old.setup self.old.entries plan.now }
-        ensures setup { self.new.setup ≡ self.old.setup }
-        ensures answer { Commits self.old.setup self.old.entries pass now plan.now.n self.new.entries result }
-        ensures unchanged { OnErr result (self.new ≡ self.old) }
-        ensures spare { self.old.spare ≤ self.new.spare + 1 }
-    {
-        laws_of_histories();
-        plans_of_entries();
-        what_is_allowed();
-        let t = self.stamp(now);
-        let count = match self.waiting(t, plan) {
-            Ok(count) => count,
-            Err(fault) => return Err(fault),
-        };
-        if count == 0 {
-            return Ok(0);
-        }
-        match self.start_wave(alloc, t, pass, plan) {
-            Ok(()) => Ok(count),
-            Err(_) => Err(CommitFault::OutOfMemory),
-        }
-    }
-
-    // Begins the games of a wave, which may come, and adds its entry.
-    fn start_wave(
-        &mut self,
-        alloc: Global,
-        t: u64,
-        pass: u32,
-        plan: &Plan,
-    ) -> Result<(), AllocError>
-        requires not_before { last_stamp self.old.entries ≤ t }
-        requires most { t ≤ max_stamp }
-        requires plan { IsPlanOf self.old.setup self.old.entries plan.now }
-        requires allowed { AllowsWave self.old.setup (past self.old) t plan.now.n }
-        ensures setup { self.new.setup ≡ self.old.setup }
-        ensures entries { OnOk result (self.new.entries ≡ self.old.entries ++ wave_entry t pass plan.now.n ∷ []) }
-        ensures unchanged { OnErr result (self.new ≡ self.old) }
-        ensures spare { self.old.spare ≤ self.new.spare + 1 }
-    {
-        laws_of_histories();
-        let (headers, prepared) = prepare_wave(
-            alloc,
-            &self.book,
-            &mut self.games,
-            &mut self.people,
-            plan,
-            t,
-        )?;
-        self.book.reserve_wave(headers.len())?;
-        begin_wave(
-            &self.book,
-            &mut self.games,
-            &mut self.people,
-            plan,
-            t,
-            headers.as_slice(),
-            prepared,
-        );
-        self.book.add_wave(t, pass, plan.n, headers.as_slice());
-        Ok(())
-    }
-}
-
-// What answers are made of.
-impl Arena {
-    // The arena at a stamp.
-    fn view(&self, t: u64) -> ArenaView
-        ensures { result ≡ arena_view self.now.setup (past self.now) t }
-    {
-        laws_of_histories();
-        ArenaView {
-            stamp: t,
-            phase: phase(self.book.setup(), t),
-            entered: self.people.entered(),
-            begun: self.games.begun(),
-            running: self.games.running(),
-        }
-    }
-
-    // A player.
-    fn me(&self, p: u32) -> MeView
-        requires { p < length self.now.setup.players }
-        ensures { result ≡ me_view self.now.setup (past self.now) p }
-    {
-        laws_of_histories();
-        table_is_in_order();
-        me_by(p, self.people.seat(p), self.people.row_of(p))
-    }
-
-    // A game at a stamp, if it was begun.
-    fn shown(&self, t: u64, g: u32) -> Option<GameView>
-        requires { last_stamp self.now.entries ≤ t }
-        ensures { result ≡ shown_at self.now.setup (past self.now) t g }
-    {
-        self.book.keeps();
-        laws_of_histories();
-        games_of_legal_lists();
-        self.games.view(g, t)
-    }
-
-    // The table's length, and ten rows of it.
-    fn standing(&self, alloc: Global, k: u32) -> Result<Answer, AllocError>
-        ensures { IfOk result (λ given. (t : ℕ) → answer_to self.now.setup (past self.now) t (Query.Standing k) ≡ Some given) }
-    {
-        laws_of_histories();
-        Ok(Answer::Standing {
-            total: self.people.entered(),
-            rows: List::of(rows_from(alloc, &self.people, k)?),
-        })
-    }
-
-    // The table of the teams.
-    fn team_table(&self, alloc: Global) -> Result<Answer, AllocError>
-        ensures { IfOk result (λ given. (t : ℕ) → answer_to self.now.setup (past self.now) t Query.Teams ≡ Some given) }
-    {
-        Ok(Answer::Teams(List::of(self.teams(alloc)?)))
-    }
-
-    // The journal's length, and a thousand entries of it.
-    fn journal(&self, alloc: Global, k: u64) -> Result<Answer, AllocError>
-        ensures { IfOk result (λ given. (t : ℕ) → answer_to self.now.setup (past self.now) t (Query.Journal k) ≡ Some given) }
-    {
-        laws_of_histories();
-        let entries = self.book.entries();
-        Ok(Answer::Journal {
-            total: entries.len() as u64,
-            entries: List::of(entries_from(alloc, entries, k)?),
-        })
     }
 }

@@ -17,6 +17,8 @@ mod pages;
 mod people;
 mod refusals;
 mod starting;
+#[cfg(test)]
+mod tests;
 mod views;
 mod waiting;
 mod wishing;

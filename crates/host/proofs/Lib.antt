@@ -1,0 +1,9 @@
+pub mod Asking
+pub mod Calling
+pub mod Completing
+pub mod Endings
+pub mod Reading
+pub mod Replying
+pub mod Shown
+pub mod Talking
+pub mod Turning

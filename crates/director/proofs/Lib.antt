@@ -1,0 +1,4 @@
+pub mod Grown
+pub mod Left
+pub mod Looking
+pub mod Turning

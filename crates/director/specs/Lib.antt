@@ -1,0 +1,5 @@
+pub mod Due
+pub mod Steps
+pub mod Answers
+pub mod Turns
+pub mod Gains

@@ -1,4 +1,4 @@
-ghost use Rattle.std.specs.Prelude.{◌≡◌, ◌≢◌, ◌+◌, ◌≤◌, List, [], length, slice_get, IfOk, IsOk, OnOk, OnErr, Err, None, Some};
+ghost use Rattle.std.specs.Prelude.{◌≡◌, ◌≢◌, ◌+◌, ◌≤◌, List, [], length, slice_get, IfOk, IsOk, OnOk, OnErr, Ok, Err, None, Some};
 ghost use Rattle.std.specs.Option.{option_map};
 ghost use Rattle.entries.specs.Limits.{max_stamp};
 ghost use Rattle.entries.specs.Ranges.{IsGood};
@@ -172,6 +172,7 @@ impl Arena {
         ensures setup { self.new.setup ≡ self.old.setup }
         ensures answer { Commits self.old.setup self.old.entries pass now plan.now.n self.new.entries result }
         ensures unchanged { OnErr result (self.new ≡ self.old) }
+        ensures nobody { result ≡ Ok 0 → self.new ≡ self.old }
         ensures fair { IsFair self.new.setup self.new.entries }
         ensures spare { self.old.spare ≤ self.new.spare + 1 }
     {

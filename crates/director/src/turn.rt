@@ -20,7 +20,7 @@ pub enum WaveEnd {
     /// too short before.
     NotDue,
     /// One was due, and so many games were started. Where it is 0 nobody of the plan's pairs could play any more, or the plan
-    /// had no pair, and the next turn finds a wave due again.
+    /// had no pair; then no entry was added, so it puts off no later wave.
     Started(u32),
     /// One was due, and its commit came before the first moment for games: the clock went back.
     Early,

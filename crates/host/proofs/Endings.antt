@@ -47,6 +47,9 @@ pub all_one_more : (P : Exchange → Type 0) (xs : List Exchange) (x : Exchange)
 all_one_more P [] x all p = (p, tt)
 all_one_more P (y ∷ xs) x all p = (all.0, all_one_more P xs x all.1 p)
 
+pub as_many : (xs : List Exchange) → length xs ≤ 100 → length (xs ++ []) ≤ 100
+as_many xs few = subst (λ (l : List Exchange). length l ≤ 100) (sym (append-nil xs)) few
+
 -- ---- bytes gained
 
 pub gained_more : (first second third : Option (List ℕ)) (bytes more : List ℕ) → Gained first second bytes → Gained second third more → Gained first third (bytes ++ more)
@@ -118,13 +121,14 @@ module _ (laws : LawsOfRequests) (s : Setup) (keys : List (List ℕ)) (start new
   caused_whole hundred real = tt
 
   -- all that the bytes spell was answered
-  pub talk_whole : (answered : List Exchange) (ending : Ending) → IsReal ending → Asked s keys start.moments new.moments start.pass new.pass answered
+  pub talk_whole : (answered : List Exchange) (ending : Ending) → IsReal ending → length answered ≤ 100 → Asked s keys start.moments new.moments start.pass new.pass answered
       → AllAnswered answered → SpellIfTold start.left (requests answered) ending
       → Gained start.held new.held (responses s 0 answered ++ end_response (length new.pass.seen) ending)
       → Talk s keys start new (answer_by ending)
-  talk_whole answered ending real asks each spelt gained = record {
+  talk_whole answered ending real few asks each spelt gained = record {
     answered = answered;
     more = [];
+    few = as_many answered few;
     asked = subst (λ l. Asked s keys start.moments new.moments start.pass new.pass l) (sym (append-nil answered)) asks;
     each = each;
     written = responses s 0 answered ++ end_response (length new.pass.seen) ending;
@@ -143,13 +147,14 @@ module _ (laws : LawsOfRequests) (s : Setup) (keys : List (List ℕ)) (start new
   }
 
   -- a read failed
-  pub talk_unread : (answered : List Exchange) → Asked s keys start.moments new.moments start.pass new.pass answered
+  pub talk_unread : (answered : List Exchange) → length answered ≤ 100 → Asked s keys start.moments new.moments start.pass new.pass answered
       → AllAnswered answered → TookOnlyIfTold start.left new.left (requests answered)
       → Gained start.held new.held (responses s 0 answered) → Rose start.reads new.reads
       → Talk s keys start new ReadFault
-  talk_unread answered asks each took gained rose = record {
+  talk_unread answered few asks each took gained rose = record {
     answered = answered;
     more = [];
+    few = as_many answered few;
     asked = subst (λ l. Asked s keys start.moments new.moments start.pass new.pass l) (sym (append-nil answered)) asks;
     each = each;
     written = responses s 0 answered;
@@ -160,13 +165,14 @@ module _ (laws : LawsOfRequests) (s : Setup) (keys : List (List ℕ)) (start new
   }
 
   -- a write failed in the response to a request
-  pub talk_cut_short : (answered : List Exchange) (x : Exchange) (count : ℕ) → Asked s keys start.moments new.moments start.pass new.pass (answered ++ x ∷ [])
+  pub talk_cut_short : (answered : List Exchange) (x : Exchange) (count : ℕ) → length (answered ++ x ∷ []) ≤ 100 → Asked s keys start.moments new.moments start.pass new.pass (answered ++ x ∷ [])
       → AllAnswered answered → BeginIfTold start.left (requests (answered ++ x ∷ [])) → IsSome (said s x.deed)
       → Gained start.held new.held (responses s 0 answered ++ take count (response s (is_last (length answered) x) x)) → Rose start.writes new.writes
       → Talk s keys start new WriteFault
-  talk_cut_short answered x count asks each spelt has gained rose = record {
+  talk_cut_short answered x count few asks each spelt has gained rose = record {
     answered = answered;
     more = x ∷ [];
+    few = few;
     asked = asks;
     each = each;
     written = responses s 0 answered ++ take count (response s (is_last (length answered) x) x);
@@ -177,13 +183,14 @@ module _ (laws : LawsOfRequests) (s : Setup) (keys : List (List ℕ)) (start new
   }
 
   -- a write failed in the response to a fault
-  pub talk_cut_in_fault : (answered : List Exchange) (f : NextFault) (count : ℕ) → Asked s keys start.moments new.moments start.pass new.pass answered
+  pub talk_cut_in_fault : (answered : List Exchange) (f : NextFault) (count : ℕ) → length answered ≤ 100 → Asked s keys start.moments new.moments start.pass new.pass answered
       → AllAnswered answered → SpellIfTold start.left (requests answered) (in_fault f)
       → Gained start.held new.held (responses s 0 answered ++ take count (fault_response (length new.pass.seen) f)) → Rose start.writes new.writes
       → Talk s keys start new WriteFault
-  talk_cut_in_fault answered f count asks each spelt gained rose = record {
+  talk_cut_in_fault answered f count few asks each spelt gained rose = record {
     answered = answered;
     more = [];
+    few = as_many answered few;
     asked = subst (λ l. Asked s keys start.moments new.moments start.pass new.pass l) (sym (append-nil answered)) asks;
     each = each;
     written = responses s 0 answered ++ take count (fault_response (length new.pass.seen) f);
@@ -194,18 +201,19 @@ module _ (laws : LawsOfRequests) (s : Setup) (keys : List (List ℕ)) (start new
   }
 
   -- memory was wanting
-  pub talk_starved : (answered more : List Exchange) → Asked s keys start.moments new.moments start.pass new.pass (answered ++ more)
+  pub talk_starved : (answered more : List Exchange) → length (answered ++ more) ≤ 100 → Asked s keys start.moments new.moments start.pass new.pass (answered ++ more)
       → AllAnswered answered → BeginIfTold start.left (requests (answered ++ more)) → length more ≤ 1
       → Gained start.held new.held (responses s 0 answered)
       → Talk s keys start new OutOfMemory
-  talk_starved answered more asks each spelt few gained = record {
+  talk_starved answered more few asks each spelt one gained = record {
     answered = answered;
     more = more;
+    few = few;
     asked = asks;
     each = each;
     written = responses s 0 answered;
     gained = gained;
-    says = record { spelt = spelt; one_at_most = few; responses = refl };
+    says = record { spelt = spelt; one_at_most = one; responses = refl };
     caused = tt;
     exactly = λ rs other spell. inl tt;
   }

@@ -28,7 +28,7 @@ use Rattle.host.specs.Steps.{AnswersFault, LawsOfRequests, Replies, ReadIfTold, 
 use Rattle.host.specs.Talk.{Around, Completes, IsComplete, Talk, around}
 use Rattle.host.proofs.Asking.{asked_one_more, nothing_asked}
 use Rattle.host.proofs.Reading.{begins_asked, begins_read, read_on, spelt_to_close, spelt_to_end, spelt_to_fault, spelt_to_hundred, took_more, took_nothing, took_only}
-use Rattle.host.proofs.Endings.{IsReal, all_one_more, followed_by_none, gained_more, gained_none, gained_nothing, real_or_not, requests_one_more, responses_from, talk_cut_in_fault, talk_cut_short, talk_starved, talk_unread, talk_whole}
+use Rattle.host.proofs.Endings.{IsReal, all_one_more, as_many, followed_by_none, gained_more, gained_none, gained_nothing, real_or_not, requests_one_more, responses_from, talk_cut_in_fault, talk_cut_short, talk_starved, talk_unread, talk_whole}
 
 rose_since : (first second third : ℕ) → first ≤ second → Rose second third → Rose first third
 rose_since first second third le rose = omega arith
@@ -82,11 +82,15 @@ module _ (laws : LawsOfRequests) (s : Setup) (keys : List (List ℕ)) (start : A
   begun_with bytes middle answered is =
       subst (BeginIfTold bytes) (append-nil (requests answered) ∙ ap requests (sym (append-nil answered))) (begins_read bytes middle (requests answered) is)
 
+  no_more : (answered : List Exchange) (before : ℕ) → length answered ≡ before → before ≤ 100 → length answered ≤ 100
+  no_more answered before count few = subst (λ (n : ℕ). n ≤ 100) (sym count) few
+
   -- want of memory behind answered requests
-  starved_behind : (old new : Around) (ahead : List ℕ) (before : ℕ) → SoFar s keys start old ahead before
+  starved_behind : (old new : Around) (ahead : List ℕ) (before : ℕ) → before ≤ 100 → SoFar s keys start old ahead before
       → new.pass ≡ old.pass → new.moments ≡ old.moments → new.held ≡ old.held → Talk s keys start new OutOfMemory
-  starved_behind old new ahead before so pass moments held =
+  starved_behind old new ahead before few so pass moments held =
       talk_starved laws s keys start new so.answered []
+      (as_many so.answered (no_more so.answered before so.count few))
       (subst (λ (l : List Exchange). Asked s keys start.moments new.moments start.pass new.pass l) (sym (append-nil so.answered))
       (subst (λ (z : Pass × Option (List ℕ)). Asked s keys start.moments z.1 start.pass z.0 so.answered) (λ j. (sym pass j, sym moments j)) so.asked))
       so.each
@@ -97,19 +101,19 @@ module _ (laws : LawsOfRequests) (s : Setup) (keys : List (List ℕ)) (start : A
   -- a hundred requests were answered
   pub ends_at_limit : (now : Around) (ahead : List ℕ) → SoFar s keys start now ahead 100 → Talk s keys start now Limit
   ends_at_limit now ahead so =
-      talk_whole laws s keys start now so.answered hundred tt so.asked so.each
+      talk_whole laws s keys start now so.answered hundred tt (no_more so.answered 100 so.count (omega arith)) so.asked so.each
       (spelt_to_hundred start.left (still_ahead ahead now.left) (requests so.answered) laws.and_then so.were_read (counted so.answered 100 so.count))
       (none_more so.answered now.held so.gained)
 
-  pub ends_starved : (now : Around) (ahead : List ℕ) (before : ℕ) → SoFar s keys start now ahead before → Talk s keys start now OutOfMemory
-  ends_starved now ahead before so = starved_behind now now ahead before so refl refl refl
+  pub ends_starved : (now : Around) (ahead : List ℕ) (before : ℕ) → before ≤ 100 → SoFar s keys start now ahead before → Talk s keys start now OutOfMemory
+  ends_starved now ahead before few so = starved_behind now now ahead before few so refl refl refl
 
   module _ (old : Around) (ahead ahead' : List ℕ) (before : ℕ) (few : before < 100) (so : SoFar s keys start old ahead before) (left' : Option (List ℕ)) (reads' : ℕ) (reads_kept : old.reads ≤ reads') where
     -- the source ended behind the requests
     pub ends_served : FirstOf (still_ahead ahead old.left) (still_ahead ahead' left') (λ rest. ended)
         → Talk s keys start (around old.pass old.moments left' reads' old.held old.writes) Served
     ends_served first =
-        talk_whole laws s keys start (around old.pass old.moments left' reads' old.held old.writes) so.answered at_end tt so.asked so.each
+        talk_whole laws s keys start (around old.pass old.moments left' reads' old.held old.writes) so.answered at_end tt (no_more so.answered before so.count (omega arith)) so.asked so.each
         (spelt_to_end start.left (still_ahead ahead old.left) (still_ahead ahead' left') (requests so.answered) before laws.and_then so.were_read (counted so.answered before so.count) few first)
         (none_more so.answered old.held so.gained)
 
@@ -127,7 +131,7 @@ module _ (laws : LawsOfRequests) (s : Setup) (keys : List (List ℕ)) (start : A
 
         ends_real : IsReal (in_fault f) → Gained old.held held' (fault_response (length old.pass.seen) f) → Talk s keys start after_fault (answer_to_fault f)
         ends_real real gained =
-            talk_whole laws s keys start after_fault so.answered (in_fault f) real so.asked so.each (spelt_real real)
+            talk_whole laws s keys start after_fault so.answered (in_fault f) real (no_more so.answered before so.count (omega arith)) so.asked so.each (spelt_real real)
             (gained_more start.held old.held held' (responses s 0 so.answered) (fault_response (length old.pass.seen) f) so.gained gained)
 
         ends_unread : f ≡ fault.ReadFault → Gained old.held held' (fault_response (length old.pass.seen) f) → Talk s keys start after_fault (answer_to_fault f)
@@ -135,13 +139,13 @@ module _ (laws : LawsOfRequests) (s : Setup) (keys : List (List ℕ)) (start : A
             let none : fault_response (length old.pass.seen) f ≡ [] = ap (fault_response (length old.pass.seen)) is in
             let all = gained_more start.held old.held held' (responses s 0 so.answered) (fault_response (length old.pass.seen) f) so.gained gained in
             subst (λ k. Talk s keys start after_fault (answer_to_fault k)) (sym is)
-            (talk_unread laws s keys start after_fault so.answered so.asked so.each
+            (talk_unread laws s keys start after_fault so.answered (no_more so.answered before so.count (omega arith)) so.asked so.each
             (took_only start.left old.left left' ahead (requests so.answered) before _ laws.own laws.and_then so.were_read (counted so.answered before so.count) few so.took (gave is))
             (subst (Gained start.held held') (ap (λ l. responses s 0 so.answered ++ l) none ∙ append-nil (responses s 0 so.answered)) all)
             (rose_since start.reads old.reads reads' so.reads_kept (rose is)))
 
         ends_wanting : held' ≡ old.held → Talk s keys start after_fault OutOfMemory
-        ends_wanting same = starved_behind old after_fault ahead before so refl refl same
+        ends_wanting same = starved_behind old after_fault ahead before (omega arith) so refl refl same
 
         nothing_gained : f ≡ fault.OutOfMemory → Gained old.held held' (fault_response (length old.pass.seen) f) → held' ≡ old.held
         nothing_gained is gained =
@@ -161,7 +165,7 @@ module _ (laws : LawsOfRequests) (s : Setup) (keys : List (List ℕ)) (start : A
 
         ends_cut : IsSome (error_of f) → Rose old.writes writes' → GainedPart old.held held' (fault_response (length old.pass.seen) f) → Talk s keys start after_fault WriteFault
         ends_cut some rose_writes part =
-            talk_cut_in_fault laws s keys start after_fault so.answered f part.0 so.asked so.each (spelt_real (real_with_error f some))
+            talk_cut_in_fault laws s keys start after_fault so.answered f part.0 (no_more so.answered before so.count (omega arith)) so.asked so.each (spelt_real (real_with_error f some))
             (gained_more start.held old.held held' (responses s 0 so.answered) (take part.0 (fault_response (length old.pass.seen) f)) so.gained part.1)
             (rose_since start.writes old.writes writes' so.writes_kept rose_writes)
 
@@ -187,6 +191,11 @@ module _ (laws : LawsOfRequests) (s : Setup) (keys : List (List ℕ)) (start : A
         module _ (deed : Deed) (asks : Asked s keys old.moments moments' old.pass pass' (exchange r deed pass' ∷ [])) where
           abbrev x : Exchange
           x = exchange r deed pass'
+
+          few_with_it : length (so.answered ++ x ∷ []) ≤ 100
+          few_with_it =
+              let count : length so.answered ≡ before = so.count in
+              subst (λ (n : ℕ). n ≤ 100) (sym (length-append so.answered (x ∷ []))) (omega arith)
 
           all_asked : Asked s keys start.moments moments' start.pass pass' (so.answered ++ x ∷ [])
           all_asked = asked_one_more s keys start.moments old.moments moments' start.pass old.pass pass' so.answered x so.asked asks
@@ -220,7 +229,7 @@ module _ (laws : LawsOfRequests) (s : Setup) (keys : List (List ℕ)) (start : A
 
           ends_closed : r.closes ≡ true → IsSome (said s deed) → Gained old.held held' (response s (is_last before x) x) → Talk s keys start after_request Served
           ends_closed closes some gained =
-              talk_whole laws s keys start after_request (so.answered ++ x ∷ []) closed tt all_asked (one_more_said some)
+              talk_whole laws s keys start after_request (so.answered ++ x ∷ []) closed tt few_with_it all_asked (one_more_said some)
               (subst (λ l. SpellIfTold start.left l closed) (sym (requests_one_more so.answered x))
               (spelt_to_close start.left (still_ahead ahead old.left) (still_ahead ahead' left') (requests so.answered) r before laws.and_then so.were_read (counted so.answered before so.count) few first closes))
               (none_more (so.answered ++ x ∷ []) held' (gained_all gained))
@@ -229,13 +238,13 @@ module _ (laws : LawsOfRequests) (s : Setup) (keys : List (List ℕ)) (start : A
           ends_short some rose part =
               let cut : Gained start.held held' (responses s 0 so.answered ++ take part.0 (response s (is_last before x) x)) =
               gained_more start.held old.held held' (responses s 0 so.answered) (take part.0 (response s (is_last before x) x)) so.gained part.1 in
-              talk_cut_short laws s keys start after_request so.answered x part.0 all_asked so.each begins_with_all some
+              talk_cut_short laws s keys start after_request so.answered x part.0 few_with_it all_asked so.each begins_with_all some
               (subst (λ k. Gained start.held held' (responses s 0 so.answered ++ take part.0 (response s (is_last k x) x))) (sym so.count) cut)
               (rose_since start.writes old.writes writes' so.writes_kept rose)
 
           ends_asked : held' ≡ old.held → Talk s keys start after_request OutOfMemory
           ends_asked same =
-              talk_starved laws s keys start after_request so.answered (x ∷ []) all_asked so.each begins_with_all (omega arith)
+              talk_starved laws s keys start after_request so.answered (x ∷ []) few_with_it all_asked so.each begins_with_all (omega arith)
               (gained_none start.held old.held held' _ so.gained same)
 
           closes_or_not : (closes : Bool) → r.closes ≡ closes → IsSome (said s deed) → Gained old.held held' (response s (is_last before x) x)

@@ -1,5 +1,5 @@
 -- One connection on a pass: what it did and what was written, from before to after.
-use Rattle.std.specs.Prelude.{◌≡◌, ◌⊎◌, ℕ, List, ◌++◌, length, Option}
+use Rattle.std.specs.Prelude.{◌≡◌, ◌⊎◌, ℕ, ◌≤◌, List, ◌++◌, length, Option}
 use Rattle.std.specs.List.{AllByRecursion}
 use Rattle.std.specs.Option.{IsSome}
 use Rattle.conn.specs.Faults.{Rose}
@@ -34,9 +34,10 @@ abbrev pub IsHinderedIn : Around → Around → Ended → Type 0
 IsHinderedIn old new result = IsHindered old.reads new.reads old.writes new.writes result
 
 pub record Talk (s : Setup) (keys : List (List ℕ)) (old new : Around) (result : Ended) : Type 0 where
-  -- the requests that were answered, and one more at most, which was asked and has no whole response
+  -- the requests that were answered, and one more at most, which was asked and has no whole response: a hundred in all at most
   pub answered : List Exchange
   pub more : List Exchange
+  pub few : length (answered ++ more) ≤ 100
   pub asked : Asked s keys old.moments new.moments old.pass new.pass (answered ++ more)
   pub each : AllByRecursion (λ (x : Exchange). IsSome (said s x.deed)) answered
   -- what the sink gained, by the answer

@@ -1,6 +1,6 @@
 //! How the plan of a wave is committed.
 
-ghost use Rattle.std.specs.Prelude.{◌≡◌, ◌+◌, ◌≤◌, [], ◌∷◌, ◌++◌, length, IfOk, IfErr, OnOk, OnErr, Err, None, Some};
+ghost use Rattle.std.specs.Prelude.{◌≡◌, ◌+◌, ◌≤◌, [], ◌∷◌, ◌++◌, length, IfOk, IfErr, OnOk, OnErr, Ok, Err, None, Some};
 ghost use Rattle.entries.specs.Limits.{max_stamp};
 ghost use Rattle.arena_history.specs.Stamps.{last_stamp};
 ghost use Rattle.arena_history.specs.Waves.{started};
@@ -53,6 +53,7 @@ impl Arena {
         ensures setup { self.new.setup ≡ self.old.setup }
         ensures answer { Commits self.old.setup self.old.entries pass now plan.now.n self.new.entries result }
         ensures unchanged { OnErr result (self.new ≡ self.old) }
+        ensures nobody { result ≡ Ok 0 → self.new ≡ self.old }
         ensures spare { self.old.spare ≤ self.new.spare + 1 }
     {
         laws_of_histories();

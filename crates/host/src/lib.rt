@@ -15,3 +15,6 @@ mod serving;
 
 pub use ended::Ended;
 pub use serving::serve_connection;
+
+#[cfg(test)]
+mod tests;

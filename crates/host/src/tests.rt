@@ -1,0 +1,98 @@
+ghost use Rattle.std.specs.Prelude.{◌≡◌, ◌≤◌, All, IfOk, length};
+ghost use Rattle.entries.specs.Ranges.{IsGood};
+ghost use Rattle.setup_file.specs.Keys.{AreKeysOf};
+ghost use Rattle.arena_lock.specs.Turns.{IsReady};
+ghost use Rattle.arena_rules.specs.Commits.{IsPlanOf};
+ghost use Rattle.host.specs.Asked.{AreKeysOfPlayers};
+
+mod faults;
+mod heads;
+mod requests;
+mod threads;
+mod wires;
+
+use arena_core::{Arena, Command};
+use arena_lock::{Lobby, Pass};
+use arena_rules::{plans_of_entries, tables_of_legal_lists};
+use entries::Setup;
+use group_pairing::Bench;
+use setup_file::{Keys, read_setup};
+use std::alloc::{AllocError, Global};
+use std::sync::Wait;
+use std::thread::Threads;
+use wave::{Plan, plan};
+
+const SETUP: &[u8] =
+    br#"{"control":{"initial":180,"increment":2},"starts":0,"ends":3600000,"leaders":1,"players":[{"name":"alice","rating":2000,"key":"alicekey00000001"},{"name":"bob","rating":1900,"key":"bobskey000000002"},{"name":"carol","rating":1500,"key":"carolkey00000003"},{"name":"dave","rating":1400,"key":"daveskey00000004"}]}"#;
+
+/// The keys of the players are those of players.
+fn keys_of_players(setup: &Setup, keys: &Keys)
+    requires own { AreKeysOf (length setup.now.players) keys.now }
+    ensures players { AreKeysOfPlayers (length setup.now.players) keys.now }
+{}
+
+/// The setup of alice, bob, carol and dave, and their keys.
+pub fn evening(alloc: Global) -> Result<(Setup, Keys), AllocError>
+    ensures good { IfOk result (λ r. IsGood r.0) }
+    ensures four { IfOk result (λ r. length r.0.players ≡ 4) }
+    ensures keys { IfOk result (λ r. AreKeysOfPlayers (length r.0.players) r.1) }
+{
+    match read_setup(alloc, SETUP) {
+        Ok((setup, keys)) if setup.players.items().len() == 4 => {
+            keys_of_players(&setup, &keys);
+            Ok((setup, keys))
+        }
+        _ => Err(AllocError),
+    }
+}
+
+/// A lobby over a setup and its passes, before anything happened.
+pub fn opened(alloc: Global, setup: Setup, passes: u32) -> Result<(Lobby, Vec<Pass>), AllocError>
+    requires good { IsGood setup }
+    requires some { (1 ≤ passes) × (passes ≤ 256) }
+    ensures setup { IfOk result (λ r. r.0.fixed ≡ setup) }
+    ensures number { IfOk result (λ r. r.0.passes ≡ passes) }
+    ensures len { IfOk result (λ r. length r.1.items ≡ passes) }
+    ensures ready { IfOk result (λ r. All (IsReady r.0) r.1.items) }
+{
+    let arena = Arena::new(alloc, setup)?;
+    Lobby::new(alloc, arena, passes)
+}
+
+/// The plan of a snapshot at 1000. The snapshot takes a turn, and the planning none.
+fn planned<R: Threads + Wait + Sync>(
+    rt: &R,
+    alloc: Global,
+    lobby: &Lobby,
+    pass: &mut Pass,
+) -> Result<Plan, AllocError>
+    requires good { IsGood lobby.now.fixed }
+    requires ready { IsReady lobby.now pass.old }
+    ensures ready { IsReady lobby.now pass.new }
+    ensures plan { IfOk result (λ plan. IsPlanOf lobby.now.fixed pass.new.seen plan) }
+{
+    tables_of_legal_lists();
+    plans_of_entries();
+    let snapshot = lobby.snapshot(rt, alloc, pass, 1_000)?;
+    let mut solvers = vec![in alloc; Bench::new(alloc)?]?;
+    plan(rt, alloc, solvers.as_mut_slice(), &snapshot)
+}
+
+/// Alice and bob enter at 0, and the first wave begins their game, alice with White, at 1000. That are three entries.
+pub fn begin_game<R: Threads + Wait + Sync>(
+    rt: &R,
+    alloc: Global,
+    lobby: &Lobby,
+    pass: &mut Pass,
+) -> Result<bool, AllocError>
+    requires good { IsGood lobby.now.fixed }
+    requires four { length lobby.now.fixed.players ≡ 4 }
+    requires ready { IsReady lobby.now pass.old }
+    ensures ready { IsReady lobby.now pass.new }
+{
+    let alice = lobby.command(rt, pass, 0, Command::Enter(0)).is_ok();
+    let bob = lobby.command(rt, pass, 0, Command::Enter(1)).is_ok();
+    let plan = planned(rt, alloc, lobby, pass)?;
+    let started = lobby.commit(rt, alloc, pass, 1_000, &plan);
+    Ok(alice && bob && started == Ok(1))
+}

@@ -1,5 +1,5 @@
 -- What a run of the program has done, by its words and its status.
-use Rattle.std.specs.Prelude.{◌≡◌, ℕ, ◌⊎◌, List, [], ◌∷◌, Option, Result, Ok, Err, codes}
+use Rattle.std.specs.Prelude.{◌≡◌, ℕ, ◌⊎◌, List, [], ◌∷◌, Option, IfSome, Result, Ok, Err, codes}
 use Rattle.conn.specs.Told.{Gained, GainedPart}
 use Rattle.replay.specs.declared.replay_end.ReplayEnd.{ReplayEnd}
 use Rattle.replay.specs.declared.replay_end.ReplayEnd.TheVariants as end
@@ -7,9 +7,11 @@ use Rattle.arena_main.specs.declared.status.Status.{Status}
 use Rattle.arena_main.specs.declared.status.Status.TheVariants.{Done, BadWords, BadJournal, Illegal, TooLong, ReadFault, WriteFault, OutOfMemory}
 use Rattle.replay.specs.Fates as fate
 use Rattle.replay.specs.Fates.{Fate}
-use Rattle.replay.specs.Replays.{HadFate, IsReadToEnd}
-use Rattle.first_text.specs.declared.fault.JournalFault.{JournalFault}
-use Rattle.replay.specs.declared.replay_end.IllegalCause.{IllegalCause}
+use Rattle.replay.specs.Replayed.{Replayed}
+use Rattle.replay.specs.Replays.{HadFate, HadText, IsReadToEnd}
+use Rattle.entries.specs.declared.journal.Journal.{Journal}
+use Rattle.journal_text.specs.declared.fault.JournalFault.{JournalFault}
+use Rattle.journal_replay.specs.declared.illegal.IllegalCause.{IllegalCause}
 use Rattle.arena_main.specs.Words.{cause_line, journal_word, illegal_word}
 use Rattle.arena_main.specs.declared.telling.TellFault.{TellFault}
 use Rattle.arena_main.specs.declared.telling.TellFault.TheVariants as hindered
@@ -18,9 +20,13 @@ use Rattle.arena_main.specs.declared.telling.TellFault.TheVariants as hindered
 abbrev pub IsReplay : List (List ℕ) → Type 0
 IsReplay words = words ≡ codes "replay" ∷ []
 
+-- the words are the one word `upgrade`
+abbrev pub IsUpgrade : List (List ℕ) → Type 0
+IsUpgrade words = words ≡ codes "upgrade" ∷ []
+
 -- what is written for other words
 abbrev pub usage : List ℕ
-usage = codes "usage: arena_main replay | gen SEED PLAYERS | serve SETUP PORT WORKERS JOURNAL\n"
+usage = codes "usage: arena_main replay | upgrade | gen SEED PLAYERS | serve SETUP PORT WORKERS JOURNAL\n"
 
 -- a run whose words are none of its forms: it has written the usage line, or a beginning of it where a write failed
 abbrev pub RefusesWords : Option (List ℕ) → Option (List ℕ) → Status → Type 0
@@ -33,38 +39,43 @@ RefusesWords old new TooLong = ⊥
 RefusesWords old new ReadFault = ⊥
 RefusesWords old new OutOfMemory = ⊥
 
--- the status of a replay of a text that comes to this
+-- the status of a run over a text that comes to this
 abbrev pub status_due : Fate → Status
 status_due fate.TooLong = TooLong
 status_due (fate.BadJournal fault) = BadJournal
 status_due (fate.Illegal line cause) = Illegal
-status_due (fate.Table text) = Done
+status_due (fate.Legal j) = Done
 
--- what is written of a text that comes to this: its table, or the line that says where and why it has none; of a text that is
--- too long nothing
-abbrev pub written_due : Fate → List ℕ
-written_due fate.TooLong = []
-written_due (fate.BadJournal fault) = cause_line fault.line (journal_word fault.cause)
-written_due (fate.Illegal line cause) = cause_line line (illegal_word cause)
-written_due (fate.Table text) = text
+-- what is written of a text that comes to this: what is made of a legal journal, or the line that says where and why there is
+-- none; of a text that is too long nothing
+abbrev pub written_due : (Journal → List ℕ) → Fate → List ℕ
+written_due made fate.TooLong = []
+written_due made (fate.BadJournal fault) = cause_line fault.line (journal_word fault.cause)
+written_due made (fate.Illegal line cause) = cause_line line (illegal_word cause)
+written_due made (fate.Legal j) = made j
 
 -- the bytes that a source or a sink tells, where it does
 abbrev Told : Type 0
 Told = Option (List ℕ)
 
--- what a replay has done whose run ends with this status: what the source had and has left, what the sink held and holds
-abbrev pub ReplaysTo : Told → Told → Told → Told → Status → Type 0
-ReplaysTo told left old new Done =
-    (text : List ℕ) × HadFate told (fate.Table text) × Gained old new text × IsReadToEnd told left
-ReplaysTo told left old new BadJournal =
-    (fault : JournalFault) × HadFate told (fate.BadJournal fault) × Gained old new (written_due (fate.BadJournal fault))
-ReplaysTo told left old new Illegal =
-    (line : ℕ) × (cause : IllegalCause) × HadFate told (fate.Illegal line cause) × Gained old new (written_due (fate.Illegal line cause))
-ReplaysTo told left old new TooLong = HadFate told fate.TooLong × (new ≡ old)
-ReplaysTo told left old new ReadFault = new ≡ old
-ReplaysTo told left old new WriteFault = (f : Fate) × HadFate told f × GainedPart old new (written_due f)
-ReplaysTo told left old new OutOfMemory = new ≡ old
-ReplaysTo told left old new BadWords = ⊥
+-- where the source told its bytes, this is what is to be written of them
+abbrev pub HadDue : (Journal → List ℕ) → Told → List ℕ → Type 0
+HadDue made told text = IfSome told (λ bytes. (f : Fate) × Replayed bytes f × (text ≡ written_due made f))
+
+-- what a run that writes this of a legal journal has done where it ends with this status: what the source had and has left, what
+-- the sink held and holds
+abbrev pub ReplaysTo : (Journal → List ℕ) → Told → Told → Told → Told → Status → Type 0
+ReplaysTo made told left old new Done =
+    (text : List ℕ) × HadText made told text × Gained old new text × IsReadToEnd told left
+ReplaysTo made told left old new BadJournal =
+    (fault : JournalFault) × HadFate told (fate.BadJournal fault) × Gained old new (written_due made (fate.BadJournal fault))
+ReplaysTo made told left old new Illegal =
+    (line : ℕ) × (cause : IllegalCause) × HadFate told (fate.Illegal line cause) × Gained old new (written_due made (fate.Illegal line cause))
+ReplaysTo made told left old new TooLong = HadFate told fate.TooLong × (new ≡ old)
+ReplaysTo made told left old new ReadFault = new ≡ old
+ReplaysTo made told left old new WriteFault = (text : List ℕ) × HadDue made told text × GainedPart old new text
+ReplaysTo made told left old new OutOfMemory = new ≡ old
+ReplaysTo made told left old new BadWords = ⊥
 
 -- a line was told, or a beginning of it where a write failed, or nothing where memory ran out
 abbrev pub Tells : Told → Told → List ℕ → Result (Unit {0}) TellFault → Type 0
@@ -97,11 +108,11 @@ Finishes old new end.OutOfMemory status = (status ≡ OutOfMemory) × (new ≡ o
 abbrev pub IsHindered : Status → Type 0
 IsHindered status = (status ≡ ReadFault) ⊎ (status ≡ WriteFault) ⊎ (status ≡ OutOfMemory)
 
--- a replay of a text that comes to this ended with the status that is due, and the sink gained exactly what is due, unless the
+-- a run over a text that comes to this ended with the status that is due, and the sink gained exactly what is due, unless the
 -- run was hindered
-abbrev pub MeetsFate : Fate → Option (List ℕ) → Option (List ℕ) → Status → Type 0
-MeetsFate f old new status =
-    ((status ≡ status_due f) × Gained old new (written_due f)) ⊎ IsHindered status
+abbrev pub MeetsFate : (Journal → List ℕ) → Fate → Told → Told → Status → Type 0
+MeetsFate made f old new status =
+    ((status ≡ status_due f) × Gained old new (written_due made f)) ⊎ IsHindered status
 
 -- the status with which the program ends
 abbrev pub code_of : Status → ℕ

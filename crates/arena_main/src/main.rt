@@ -1,6 +1,6 @@
-//! The program: `replay` reads the journal of an arena from standard input and writes its table, or the line that says where
-//! and why it has none. What it does stands in `run`, over any source and any sink; `main` hands it the words of the command
-//! line and the real input and output.
+//! The program: `replay` reads the journal of an arena from standard input and writes its table, `upgrade` writes the journal
+//! itself in version 2, and both write the line that says where and why it is none, or not legal. What it does stands in `run`,
+//! over any source and any sink; `main` hands it the words of the command line and the real input and output.
 #![tactic(auto)]
 
 mod running;
@@ -27,10 +27,10 @@ fn words_of<R: Env + AllocGlobal>(rt: &R) -> io::Result<Vec<Text>> {
 fn main(rt: HostRuntime) -> ExitCode {
     let (mut source, mut sink) = (Reading::new(rt.stdin()), Writing::new(rt.stdout()));
     let status = match words_of(&rt) {
-        Ok(words) => run(rt.alloc(), &words, &mut source, &mut sink),
+        Ok(words) => run(&rt, rt.alloc(), &words, &mut source, &mut sink),
         // No words are none of the program's forms, and neither is a word that is no text.
         Err(fault) if fault.kind() == io::ErrorKind::InvalidData => {
-            run(rt.alloc(), &[], &mut source, &mut sink)
+            run(&rt, rt.alloc(), &[], &mut source, &mut sink)
         }
         Err(_) => Status::OutOfMemory,
     };

@@ -1,13 +1,14 @@
 ghost use Rattle.std.specs.Prelude.{◌≡◌, ◌≢◌, IfOk, OnOk, Err};
 ghost use Rattle.std.specs.String.{string_bytes};
 ghost use Rattle.conn.specs.Faults.{Rose};
-ghost use Rattle.arena_main.specs.Words.{journal_word, refusal_word, illegal_word, cause_line};
+ghost use Rattle.arena_main.specs.Words.{act_word, journal_word, refusal_word, illegal_word, cause_line};
 ghost use Rattle.arena_main.specs.Runs.{Tells, Finishes};
 
 use crate::status::Status;
+use arena_rules::Refusal;
 use conn::{Sink, write_all};
-use first_text::JournalCause;
-use history::Refusal;
+use game_room::ActRefusal;
+use journal_text::JournalCause;
 use replay::{IllegalCause, ReplayEnd};
 use std::alloc::{AllocError, Global};
 
@@ -25,14 +26,30 @@ fn journal_word(cause: JournalCause) -> &'static [u8]
     match cause {
         JournalCause::Ended => b"Ended",
         JournalCause::Form => b"Form",
-        JournalCause::NotBuilt => b"NotBuilt",
         JournalCause::Range => b"Range",
         JournalCause::Repeat => b"Repeat",
         JournalCause::After => b"After",
     }
 }
 
-// The name of a refusal.
+// The name of a cause for which a game refuses an action.
+fn act_word(refusal: ActRefusal) -> &'static [u8]
+    ensures { result.now ≡ act_word refusal }
+{
+    match refusal {
+        ActRefusal::Over => b"Over",
+        ActRefusal::NotYourTurn => b"NotYourTurn",
+        ActRefusal::Illegal => b"Illegal",
+        ActRefusal::OfferStands => b"OfferStands",
+        ActRefusal::NoOffer => b"NoOffer",
+        ActRefusal::NoClaim => b"NoClaim",
+        ActRefusal::BerserkLate => b"BerserkLate",
+        ActRefusal::BerserkTwice => b"BerserkTwice",
+        ActRefusal::BerserkZero => b"BerserkZero",
+    }
+}
+
+// The name of a refusal: of a game's refusal it is that one's own.
 fn refusal_word(refusal: Refusal) -> &'static [u8]
     ensures { result.now ≡ refusal_word refusal }
 {
@@ -42,6 +59,10 @@ fn refusal_word(refusal: Refusal) -> &'static [u8]
         Refusal::AlreadyPaused => b"AlreadyPaused",
         Refusal::Left => b"Left",
         Refusal::Closed => b"Closed",
+        Refusal::NoGame => b"NoGame",
+        Refusal::NotYours => b"NotYours",
+        Refusal::Act(refusal) => act_word(refusal),
+        Refusal::NothingDue => b"NothingDue",
         Refusal::Full => b"Full",
     }
 }
@@ -53,6 +74,12 @@ fn illegal_word(cause: IllegalCause) -> &'static [u8]
     match cause {
         IllegalCause::StampFalls => b"StampFalls",
         IllegalCause::Refused(refusal) => refusal_word(refusal),
+        IllegalCause::Early => b"Early",
+        IllegalCause::Closed => b"Closed",
+        IllegalCause::WaveNumber => b"WaveNumber",
+        IllegalCause::WaveEmpty => b"WaveEmpty",
+        IllegalCause::Full => b"Full",
+        IllegalCause::PairsDiffer => b"PairsDiffer",
     }
 }
 
@@ -82,7 +109,7 @@ fn tell<K: Sink>(alloc: Global, sink: &mut K, line: u64, word: &[u8]) -> Result<
     }
 }
 
-/// What a run does behind a replay that ended so: it writes the line of the cause where the text has no table.
+/// What a run does behind a replay that ended so: it writes the line of the cause where the text is no legal journal's.
 pub fn finish<K: Sink>(alloc: Global, sink: &mut K, end: ReplayEnd) -> Status
     ensures finishes { Finishes (K.held sink.old) (K.held sink.new) end result }
     ensures untouched { end ≡ ReplayEnd.WriteFault → sink.new ≡ sink.old }

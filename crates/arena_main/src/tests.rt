@@ -1,227 +1,233 @@
-ghost use Rattle.std.specs.Prelude.{◌≤◌};
-
 use crate::{Status, run};
 use conn::{MemSink, MemSource, Text};
 use std::alloc::{AllocError, Global};
+use std::process::Abort;
 use std::test::Fail;
+use std::thread::Threads;
 
 const USAGE: &str =
-    "usage: arena_main replay | gen SEED PLAYERS | serve SETUP PORT WORKERS JOURNAL\n";
+    "usage: arena_main replay | upgrade | gen SEED PLAYERS | serve SETUP PORT WORKERS JOURNAL\n";
 
-const HEAD: &str = "arena 1\ncontrol 180 2 20000\nwindow 0 3600000\nwave 5000\nleaders 1\n";
+const ONE: &str =
+    "arena 1\ncontrol 180 2 20000\nwindow 0 3600000\nwave 5000\nleaders 1\nplayer 2000 - alice\nbegin\n";
 
-const ALICE_AND_BOB: &str = "player 2000 - alice\nplayer 1900 - bob\nbegin\n";
+const TWO: &str =
+    "arena 1\ncontrol 180 2 20000\nwindow 0 3600000\nwave 5000\nleaders 1\nplayer 2000 - alice\nplayer 1900 - bob\nbegin\n";
 
-const WITH_CAROL: &str = "player 2000 - alice\nplayer 1900 - bob\nplayer 2100 - carol\nbegin\n";
+const SECOND: &str =
+    "arena 2\nrule 1\ncontrol 180 2 20000\nwindow 0 3600000\nwave 5000\nleaders 1\nplayer 2000 - alice\nplayer 1900 - bob\n\
+begin\n";
 
-const TWO_ENTER: &str = "0 0 enter 0\n5 0 enter 2\nend\n";
+// The program's word, a journal's head and its entries, its status and what is written.
+type Case = [&'static str; 5];
 
-const TABLE_OF_TWO: &str = "1 carol 2100 0 0 0\n2 alice 2000 0 0 0\ngames 0 entries 2\n";
+const CASES: [Case; 18] = [
+    [
+        "replay",
+        TWO,
+        "0 0 enter 0\n5 0 enter 1\nend\n",
+        "Done",
+        "1 alice 2000 0 0 0\n2 bob 1900 0 0 0\ngames 0 entries 2\n",
+    ],
+    [
+        "upgrade",
+        TWO,
+        "0 0 enter 0\n0 0 enter 1\n1000 0 wave 2\nend\n",
+        "Done",
+        "arena 2\nrule 1\ncontrol 180 2 20000\nwindow 0 3600000\nwave 5000\nleaders 1\nplayer 2000 - alice\nplayer 1900 - bob\n\
+begin\n0 0 enter 0\n0 0 enter 1\n1000 0 wave 2 0-1\nend\n",
+    ],
+    [
+        "replay",
+        TWO,
+        "0 0 enter 0\n",
+        "BadJournal",
+        "line 10: Ended\n",
+    ],
+    [
+        "upgrade",
+        TWO,
+        "00 0 enter 0\nend\n",
+        "BadJournal",
+        "line 9: Form\n",
+    ],
+    [
+        "replay",
+        TWO,
+        "0 0 enter 2\nend\n",
+        "BadJournal",
+        "line 9: Range\n",
+    ],
+    [
+        "replay",
+        "arena 1\ncontrol 180 2 20000\nwindow 0 3600000\nwave 5000\nleaders 1\nteam a\nteam a\n",
+        "",
+        "BadJournal",
+        "line 7: Repeat\n",
+    ],
+    ["replay", TWO, "end\n ", "BadJournal", "line 10: After\n"],
+    [
+        "replay",
+        ONE,
+        "5 0 enter 0\n4 0 pause 0\nend\n",
+        "Illegal",
+        "line 9: StampFalls\n",
+    ],
+    [
+        "upgrade",
+        ONE,
+        "0 0 tick\nend\n",
+        "Illegal",
+        "line 8: NothingDue\n",
+    ],
+    [
+        "replay",
+        ONE,
+        "0 0 pause 0\nend\n",
+        "Illegal",
+        "line 8: NotEntered\n",
+    ],
+    [
+        "replay",
+        ONE,
+        "0 0 enter 0\n0 0 enter 0\nend\n",
+        "Illegal",
+        "line 9: AlreadyIn\n",
+    ],
+    [
+        "replay",
+        ONE,
+        "0 0 enter 0\n1 0 leave 0\n2 0 enter 0\nend\n",
+        "Illegal",
+        "line 10: Left\n",
+    ],
+    [
+        "replay",
+        ONE,
+        "3600000 0 enter 0\nend\n",
+        "Illegal",
+        "line 8: Closed\n",
+    ],
+    [
+        "replay",
+        ONE,
+        "0 0 wave 1\nend\n",
+        "Illegal",
+        "line 8: WaveNumber\n",
+    ],
+    [
+        "replay",
+        ONE,
+        "0 0 wave 0\nend\n",
+        "Illegal",
+        "line 8: WaveEmpty\n",
+    ],
+    [
+        "replay",
+        ONE,
+        "0 0 act 0 0 resign\nend\n",
+        "Illegal",
+        "line 8: NoGame\n",
+    ],
+    [
+        "replay",
+        SECOND,
+        "0 0 enter 0\n0 0 enter 1\n1000 0 wave 2 1-0\nend\n",
+        "Illegal",
+        "line 12: PairsDiffer\n",
+    ],
+    ["replay ", TWO, "end\n", "BadWords", USAGE],
+];
 
-// What a run came to.
-#[derive(Drop)]
-struct Ran {
-    status: Status,
-    written: Vec<u8>,
-    unread: usize,
-}
-
-// A run over the text of these parts, which comes and goes in pieces of so many bytes. One read and one write may fail.
-fn run_over(
-    alloc: Global,
-    words: &[&str],
-    parts: &[&str],
-    piece: usize,
-    read: Option<u64>,
-    write: Option<u64>,
-) -> Result<Ran, AllocError>
-    requires { 1 ≤ piece }
-{
+fn words_of(alloc: Global, words: &[&str]) -> Result<Vec<Text>, AllocError> {
     let mut texts = Vec::new(alloc);
     for word in words {
         texts.push(Text::of(Vec::from_slice(alloc, word.as_bytes())?))?;
     }
-    let mut bytes = Vec::new(alloc);
-    for part in parts {
-        bytes.extend_from_slice(part.as_bytes())?;
-    }
-    let mut source = MemSource::new(bytes, piece, calls(alloc, read)?);
-    let mut sink = MemSink::new(alloc, 1000, piece, calls(alloc, write)?)?;
-    let status = run(alloc, &texts, &mut source, &mut sink);
-    Ok(Ran {
-        status,
-        written: Vec::from_slice(alloc, sink.bytes())?,
-        unread: source.rest().len(),
-    })
+    Ok(texts)
 }
 
-fn calls(alloc: Global, call: Option<u64>) -> Result<Vec<u64>, AllocError> {
-    let mut calls = Vec::new(alloc);
-    if let Some(call) = call {
-        calls.push(call)?;
-    }
-    Ok(calls)
+fn source_of(
+    alloc: Global,
+    head: &str,
+    entries: &str,
+    failing: Vec<u64>,
+) -> Result<MemSource, AllocError> {
+    let text = format!(in alloc; "{head}{entries}")?;
+    Ok(MemSource::new(text.into_bytes(), 50, failing))
 }
 
-#[test]
-fn a_legal_journal_has_its_table(rt: HostRuntime) -> Result<(), Fail> {
-    for piece in [1, 7, 1000] {
-        let parts = [HEAD, WITH_CAROL, TWO_ENTER];
-        let ran = run_over(rt.alloc(), &["replay"], &parts, piece, None, None)?;
-        assert_eq!(rt; ran.status, Status::Done);
-        assert_eq!(rt; ran.written.as_slice(), TABLE_OF_TWO.as_bytes());
-        assert_eq!(rt; ran.unread, 0);
-    }
-    Ok(())
-}
-
-#[test]
-fn other_words_get_the_usage_line_and_nothing_is_read(rt: HostRuntime) -> Result<(), Fail> {
-    let cases: [&[&str]; 6] = [
-        &["replay", "x"],
-        &[],
-        &["Replay"],
-        &["replay "],
-        &["gen", "0", "2"],
-        &["serve", "s.json", "8080", "4", "j.txt"],
-    ];
-    for words in cases {
-        let ran = run_over(rt.alloc(), words, &[HEAD], 9, None, None)?;
-        assert_eq!(rt; ran.status, Status::BadWords);
-        assert_eq!(rt; ran.written.as_slice(), USAGE.as_bytes());
-        assert_eq!(rt; ran.unread, HEAD.len());
-        assert_eq!(rt; ran.status.code(), 1);
-    }
-    Ok(())
-}
-
-// A text that has no table, and what is written of it.
-struct Refused {
-    players: &'static str,
-    entries: &'static str,
+fn says<R: Abort>(
+    rt: &R,
+    alloc: Global,
     status: Status,
-    line: &'static str,
-}
-
-const REFUSED: [Refused; 12] = [
-    Refused {
-        players: WITH_CAROL,
-        entries: "0 0 enter 0\n5 0 enter 2\n",
-        status: Status::BadJournal,
-        line: "line 12: Ended\n",
-    },
-    Refused {
-        players: "player 02000 - alice\nplayer 1900 - bob\nplayer 2100 - carol\nbegin\n",
-        entries: TWO_ENTER,
-        status: Status::BadJournal,
-        line: "line 6: Form\n",
-    },
-    Refused {
-        players: ALICE_AND_BOB,
-        entries: "0 0 tick\nend\n",
-        status: Status::BadJournal,
-        line: "line 9: NotBuilt\n",
-    },
-    Refused {
-        players: ALICE_AND_BOB,
-        entries: "0 0 enter 2\nend\n",
-        status: Status::BadJournal,
-        line: "line 9: Range\n",
-    },
-    Refused {
-        players: "player 2000 - alice\nplayer 1900 - alice\nbegin\n",
-        entries: "end\n",
-        status: Status::BadJournal,
-        line: "line 7: Repeat\n",
-    },
-    Refused {
-        players: WITH_CAROL,
-        entries: "0 0 enter 0\n5 0 enter 2\nend\n ",
-        status: Status::BadJournal,
-        line: "line 13: After\n",
-    },
-    Refused {
-        players: "player 2000 - alice\nbegin\n",
-        entries: "5 0 enter 0\n4 0 pause 0\nend\n",
-        status: Status::Illegal,
-        line: "line 9: StampFalls\n",
-    },
-    Refused {
-        players: ALICE_AND_BOB,
-        entries: "0 0 pause 0\nend\n",
-        status: Status::Illegal,
-        line: "line 9: NotEntered\n",
-    },
-    Refused {
-        players: ALICE_AND_BOB,
-        entries: "0 0 enter 0\n0 0 enter 0\nend\n",
-        status: Status::Illegal,
-        line: "line 10: AlreadyIn\n",
-    },
-    Refused {
-        players: ALICE_AND_BOB,
-        entries: "0 0 enter 0\n0 0 pause 0\n0 0 pause 0\nend\n",
-        status: Status::Illegal,
-        line: "line 11: AlreadyPaused\n",
-    },
-    Refused {
-        players: ALICE_AND_BOB,
-        entries: "0 0 enter 0\n1 0 leave 0\n2 0 enter 0\nend\n",
-        status: Status::Illegal,
-        line: "line 11: Left\n",
-    },
-    Refused {
-        players: ALICE_AND_BOB,
-        entries: "3600000 0 enter 0\nend\n",
-        status: Status::Illegal,
-        line: "line 9: Closed\n",
-    },
-];
-
-#[test]
-fn a_text_without_a_table_has_the_line_of_its_cause(rt: HostRuntime) -> Result<(), Fail> {
-    for refused in &REFUSED {
-        let parts = [HEAD, refused.players, refused.entries];
-        let ran = run_over(rt.alloc(), &["replay"], &parts, 50, None, None)?;
-        assert_eq!(rt; ran.status, refused.status, "{}", refused.line);
-        assert_eq!(rt; ran.written.as_slice(), refused.line.as_bytes());
-        assert_eq!(rt; ran.unread, 0);
-    }
-    Ok(())
-}
-
-#[test]
-fn a_read_that_fails_at_any_place_is_told_and_nothing_is_written(
-    rt: HostRuntime,
+    sink: &MemSink,
+    case: &Case,
 ) -> Result<(), Fail> {
-    let parts = [HEAD, WITH_CAROL, TWO_ENTER];
-    let bytes = HEAD.len() + WITH_CAROL.len() + TWO_ENTER.len();
-    // one read for each 10 bytes, and the one that finds the end
-    for call in 0..u64::try_from(bytes.div_ceil(10) + 1).unwrap_or(0) {
-        let ran = run_over(rt.alloc(), &["replay"], &parts, 10, Some(call), None)?;
-        assert_eq!(rt; ran.status, Status::ReadFault, "read {call}");
-        assert_eq!(rt; ran.written.len(), 0);
+    let told = format!(in alloc; "{status:?}")?;
+    assert!(rt; told.as_str() == case[3], "{} and not {told}", case[3]);
+    assert!(rt; sink.bytes() == case[4].as_bytes(), "{}", case[4]);
+    Ok(())
+}
+
+fn runs<R: Threads + Sync + Abort>(rt: &R, alloc: Global, case: &Case) -> Result<(), Fail> {
+    let words = words_of(alloc, &case[..1])?;
+    let mut sink = MemSink::new(alloc, 1000, 50, Vec::new(alloc))?;
+    let mut source = source_of(alloc, case[1], case[2], Vec::new(alloc))?;
+    let status = run(rt, alloc, &words, &mut source, &mut sink);
+    says(rt, alloc, status, &sink, case)
+}
+
+#[test]
+fn each_text_has_its_status_and_what_is_written(rt: HostRuntime) -> Result<(), Fail> {
+    for case in &CASES {
+        runs(&rt, rt.alloc(), case)?;
     }
     Ok(())
 }
 
+// The status for these words where such a read and such a write fail, and how many bytes are written and left to read.
+fn hindered<R: Threads + Sync>(
+    rt: &R,
+    alloc: Global,
+    words: &[&str],
+    read: u64,
+    write: u64,
+) -> Result<(Status, usize, usize), AllocError> {
+    let words = words_of(alloc, words)?;
+    let mut sink = MemSink::new(alloc, 1000, 10, Vec::from_slice(alloc, &[write])?)?;
+    let mut source = source_of(
+        alloc,
+        TWO,
+        "0 0 leave 1\nend\n",
+        Vec::from_slice(alloc, &[read])?,
+    )?;
+    let status = run(rt, alloc, &words, &mut source, &mut sink);
+    Ok((status, sink.bytes().len(), source.rest().len()))
+}
+
 #[test]
-fn a_write_that_fails_at_any_place_leaves_what_came_before(rt: HostRuntime) -> Result<(), Fail> {
-    let cases = [
-        ("replay", TWO_ENTER, TABLE_OF_TWO),
-        ("replay", "0 0 leave 1\nend\n", "line 10: NotEntered\n"),
-        ("replay", "0 0 leave 1\n", "line 11: Ended\n"),
-        ("help", TWO_ENTER, USAGE),
-    ];
-    for (word, entries, text) in cases {
-        for call in 0..text.len().div_ceil(10) {
-            let parts = [HEAD, WITH_CAROL, entries];
-            let failing = u64::try_from(call).ok();
-            let ran = run_over(rt.alloc(), &[word], &parts, 10, None, failing)?;
-            assert_eq!(rt; ran.status, Status::WriteFault, "write {call}");
-            let before = text.as_bytes().get(..call.saturating_mul(10));
-            assert_eq!(rt; Some(ran.written.as_slice()), before);
-        }
-    }
+fn other_words_read_nothing_and_a_failure_is_told(rt: HostRuntime) -> Result<(), Fail> {
+    let all = TWO.len() + 16;
+    assert_eq!(rt;
+        hindered(&rt, rt.alloc(), &[], 0, 99)?,
+        (Status::BadWords, USAGE.len(), all)
+    );
+    assert_eq!(rt;
+        hindered(&rt, rt.alloc(), &["replay", "x"], 0, 99)?,
+        (Status::BadWords, USAGE.len(), all)
+    );
+    assert_eq!(rt;
+        hindered(&rt, rt.alloc(), &["help"], 0, 2)?,
+        (Status::WriteFault, 20, all)
+    );
+    assert_eq!(rt;
+        hindered(&rt, rt.alloc(), &["replay"], 0, 99)?,
+        (Status::ReadFault, 0, all)
+    );
+    assert_eq!(rt;
+        hindered(&rt, rt.alloc(), &["upgrade"], 99, 1)?,
+        (Status::WriteFault, 10, 0)
+    );
     Ok(())
 }

@@ -1,5 +1,3 @@
-mod Causes
 mod Ends
-mod Lines
 mod OneFate
-mod TeamLines
+mod Places

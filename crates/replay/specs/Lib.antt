@@ -1,4 +1,3 @@
 pub mod Fates
 pub mod Replayed
 pub mod Replays
-pub mod Table

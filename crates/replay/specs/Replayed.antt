@@ -1,50 +1,24 @@
--- What becomes of a text of bytes: its table, or why it has none.
-use Rattle.std.specs.Prelude.{◌≡◌, ℕ, ◌<◌, ◌≤◌, nat_lt, if◌then◌else◌, List, take, length, slice_get, Option, Some, option_map}
+-- What becomes of a text of bytes: its journal's table and the journal in version 2, or why it has none.
+use Rattle.std.specs.Prelude.{◌≡◌, ℕ, ◌<◌, ◌≤◌, List, length, Some}
+use Rattle.entries.specs.declared.journal.Entry.{Entry}
+use Rattle.entries.specs.declared.journal.Journal.{Journal}
 use Rattle.entries.specs.declared.setup.Setup.{Setup}
-use Rattle.first_journal.specs.declared.journal.Entry.{Entry}
-use Rattle.first_journal.specs.declared.journal.Journal.{Journal as JournalValue}
-use Rattle.first_journal.specs.declared.journal.What.{What}
-use Rattle.first_journal.specs.declared.journal.What.TheVariants as what
-use Rattle.history.specs.declared.command.Command.{Command}
-use Rattle.history.specs.declared.command.Command.TheVariants.{Enter, Pause, Leave}
-use Rattle.history.specs.History.{History, history}
-use Rattle.history.specs.Legal.{last_stamp, verdict, IsLegal}
-use Rattle.first_text.specs.Faults.{fault_of}
-use Rattle.first_text.specs.Text.{Spells, line_of_entry}
-use Rattle.replay.specs.declared.replay_end.IllegalCause.{IllegalCause}
-use Rattle.replay.specs.declared.replay_end.IllegalCause.TheVariants.{StampFalls, Refused}
-use Rattle.replay.specs.Fates.{Fate, TooLong, BadJournal, Illegal, Table}
-use Rattle.replay.specs.Table.{table}
+use Rattle.arena_rules.specs.StartLaws.{journal_of}
+use Rattle.journal_text.specs.Reading.{fault_of}
+use Rattle.journal_text.specs.Text.{Spells, text_of, line_of_entry}
+use Rattle.journal_replay.specs.declared.illegal.IllegalCause.{IllegalCause}
+use Rattle.journal_replay.specs.Causes.{first_illegal}
+use Rattle.journal_replay.specs.Legal.{IsLegalJournal}
+use Rattle.replay.specs.Fates.{Fate, TooLong, BadJournal, Illegal, Legal}
+use Rattle.replay.specs.declared.replaying.Wanted.{Wanted}
+use Rattle.replay.specs.declared.replaying.Wanted.TheVariants.{Table, Upgraded}
+use Rattle.table_text.specs.Table.{table}
 
--- the command that an entry says was obeyed
-abbrev pub command_of : What → Command
-command_of (what.Enter p) = Enter p
-command_of (what.Pause p) = Pause p
-command_of (what.Leave p) = Leave p
-
--- none, or why an entry is not allowed at the history before it: its stamp falls, or else its command is refused there
-unfoldable pub cause_of : Setup → History → Entry → Option IllegalCause
-cause_of s h e =
-    if nat_lt e.stamp (last_stamp h.entries) then Some StampFalls
-    else option_map Refused (verdict s h e.stamp (command_of e.what))
-
--- the first entry that is not allowed has this line of the journal's text, and is not for this cause: those before it are
--- legal, and it is not allowed behind them
-pub record IsFirstIllegal (s : Setup) (es : List Entry) (line : ℕ) (cause : IllegalCause) : Type 0 where
+-- this line of a journal's text has its first entry that is not allowed, which is not for this cause
+pub record IsFirstIllegal (j : Journal) (line : ℕ) (cause : IllegalCause) : Type 0 where
   pub number : ℕ
-  pub entry : Entry
-  pub found : slice_get es number ≡ Some entry
-  pub legal : IsLegal s (take number es)
-  pub why : cause_of s (history s (take number es)) entry ≡ Some cause
-  pub on : line ≡ line_of_entry s number
-
--- the bytes are the text of a journal of which this holds
-abbrev pub SpellsSome : List ℕ → (JournalValue → Type 0) → Type 0
-SpellsSome bytes P = (j : JournalValue) × Spells bytes j × P j
-
--- the journal is legal, and this is its table
-abbrev pub HasTable : JournalValue → List ℕ → Type 0
-HasTable j text = IsLegal j.setup j.entries × (text ≡ table j.setup j.entries)
+  pub first : first_illegal j ≡ Some (number, cause)
+  pub on : line ≡ line_of_entry j number
 
 -- at most 400,000,000 bytes
 abbrev pub IsShort : List ℕ → Type 0
@@ -54,9 +28,30 @@ IsShort bytes = length bytes ≤ 400000000
 abbrev pub Replayed : List ℕ → Fate → Type 0
 Replayed bytes TooLong = 400000000 < length bytes
 Replayed bytes (BadJournal fault) = IsShort bytes × (fault_of bytes ≡ Some fault)
-Replayed bytes (Illegal line cause) = IsShort bytes × SpellsSome bytes (λ j. IsFirstIllegal j.setup j.entries line cause)
-Replayed bytes (Table text) = IsShort bytes × SpellsSome bytes (λ j. HasTable j text)
+Replayed bytes (Illegal line cause) = IsShort bytes × (j : Journal) × Spells bytes j × IsFirstIllegal j line cause
+Replayed bytes (Legal j) = IsShort bytes × Spells bytes j × IsLegalJournal j
 
--- a text comes to one thing alone
+-- the table of a journal
+abbrev pub table_of : Journal → List ℕ
+table_of j = table j.setup j.entries
+
+-- the text of a journal in version 2, which lists the games that its waves begin
+abbrev pub upgraded : Journal → List ℕ
+upgraded j = text_of (journal_of j.setup j.entries)
+
+-- what is wanted of entries over a setup: their table, or their journal in version 2
+abbrev pub wanted_text : Wanted → Setup → List Entry → List ℕ
+wanted_text Table s es = table s es
+wanted_text Upgraded s es = text_of (journal_of s es)
+
+-- what is written of a legal journal, by what is wanted
+abbrev pub written : Wanted → Journal → List ℕ
+written wanted j = wanted_text wanted j.setup j.entries
+
+-- a text comes to something
+abbrev pub SomeFate : Type 0
+SomeFate = (bytes : List ℕ) → (f : Fate) × Replayed bytes f
+
+-- and to one thing alone
 abbrev pub OneFate : Type 0
 OneFate = (bytes : List ℕ) (a b : Fate) → Replayed bytes a → Replayed bytes b → a ≡ b

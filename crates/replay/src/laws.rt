@@ -1,11 +1,15 @@
-ghost use Rattle.replay.specs.Replayed.{OneFate};
+ghost use Rattle.replay.specs.Replayed.{OneFate, SomeFate};
 
-use first_text::{journal_or_fault, one_journal};
+use journal_replay::legal_journals;
+use journal_text::{journal_or_fault, one_journal};
 
-/// A text of bytes comes to one thing alone: to its table, or to one reason why it has none.
+/// A text of bytes comes to one thing alone: it is too long, or is no journal's, or its journal is not legal, or it is a legal
+/// journal's.
 pub fn one_fate()
-    ensures { OneFate }
+    ensures some { SomeFate }
+    ensures one { OneFate }
 {
     one_journal();
     journal_or_fault();
+    legal_journals();
 }

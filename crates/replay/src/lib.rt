@@ -1,19 +1,18 @@
-//! A journal replayed: its text is read, each entry is tried behind those before it, and the table of the legal ones is
-//! printed. The layer above relies on `specs/Replayed.antt`, which says what each text of bytes comes to: one thing alone, its
-//! table or the first reason why it has none. `replay` does what is said there, and `write_table` prints the table of any arena.
+//! Journals replayed from their text: of a legal journal of either version the table is printed, or the journal in version 2. The
+//! layer above relies on `specs/Replayed.antt`, which says what each text of bytes comes to: one thing alone, a legal journal or
+//! the first reason why it is none. `replay` and `upgrade` do what is said there.
 #![tactic(auto)]
 
 mod laws;
-mod playing;
+mod reaching;
 mod replay_end;
 mod replaying;
-mod table;
-mod team_lines;
+mod upgrading;
 
+pub use journal_replay::IllegalCause;
 pub use laws::one_fate;
-pub use replay_end::{IllegalCause, ReplayEnd};
-pub use replaying::replay;
-pub use table::write_table;
+pub use replay_end::ReplayEnd;
+pub use replaying::{replay, upgrade};
 
 #[cfg(test)]
 mod tests;

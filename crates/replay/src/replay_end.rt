@@ -1,19 +1,10 @@
-use first_text::JournalFault;
-use history::Refusal;
-
-/// Why an entry of a journal is not allowed behind those before it.
-#[derive(Debug, Clone, Copy, PartialEq, Eq)]
-pub enum IllegalCause {
-    /// Its stamp is below that of the entry before it.
-    StampFalls,
-    /// Its stamp does not fall, and its command is refused there: the first refusal that holds.
-    Refused(Refusal),
-}
+use journal_replay::IllegalCause;
+use journal_text::JournalFault;
 
 /// How a replay ended.
 #[derive(Debug, Clone, Copy, PartialEq, Eq)]
 pub enum ReplayEnd {
-    /// The bytes spell a legal journal, and its table was written.
+    /// The bytes spell a legal journal, and what was asked for of it was written.
     Done,
     /// The bytes are the text of no journal. The fault has the first line that cannot stand, from 1, and why.
     BadJournal(JournalFault),

@@ -1,55 +1,395 @@
-ghost use Rattle.std.specs.Prelude.{◌≤◌};
-
-use crate::{IllegalCause, ReplayEnd, replay};
+use crate::{ReplayEnd, replay, upgrade};
 use conn::{MemSink, MemSource};
-use first_text::{JournalCause, JournalFault};
-use history::Refusal;
 use std::alloc::{AllocError, Global};
+use std::process::Abort;
 use std::test::Fail;
+use std::thread::Threads;
 
 const HEAD: &str = "arena 1\ncontrol 180 2 20000\nwindow 0 3600000\nwave 5000\nleaders 1\n";
 
-const ALICE_AND_BOB: &str = "player 2000 - alice\nplayer 1900 - bob\nbegin\n";
+const TWO: &str = "player 2000 - alice\nplayer 1900 - bob\nbegin\n";
 
-const WITH_CAROL: &str = "player 2000 - alice\nplayer 1900 - bob\nplayer 2100 - carol\nbegin\n";
+const THREE: &str = "player 2000 - alice\nplayer 1900 - bob\nplayer 2100 - carol\nbegin\n";
 
-const TWO_ENTER: &str = "0 0 enter 0\n5 0 enter 2\nend\n";
+const FOUR: &str = "player 2000 - a\nplayer 1990 - b\nplayer 1980 - c\nplayer 1970 - d\nbegin\n";
 
-const TABLE_OF_TWO: &str = "1 carol 2100 0 0 0\n2 alice 2000 0 0 0\ngames 0 entries 2\n";
+const TEAMS: &str =
+    "arena 1\ncontrol 180 2 20000\nwindow 0 3600000\nwave 5000\nleaders 2\nteam Red\nteam Blue\n\
+player 2000 0 a\nplayer 1990 0 b\nplayer 1980 1 c\nplayer 1970 1 d\nbegin\n";
 
-// What a replay came to.
-#[derive(Drop)]
-struct Replayed {
-    end: ReplayEnd,
-    written: Vec<u8>,
-    unread: usize,
+const FOUR_ENTER: &str = "0 0 enter 0\n0 0 enter 1\n0 0 enter 2\n0 0 enter 3\n";
+
+const BLITZ: &str = "arena 1\ncontrol 60 0 20000\nwindow 0 3600000\nwave 5000\nleaders 1\n";
+
+// The same, but the arena is over a millisecond after the flag falls.
+const SHORT: &str = "arena 1\ncontrol 60 0 20000\nwindow 0 62001\nwave 5000\nleaders 1\n";
+
+const SECOND: &str =
+    "arena 2\nrule 1\ncontrol 180 2 20000\nwindow 0 3600000\nwave 5000\nleaders 1\n";
+
+const BY_RULE_TWO: &str =
+    "arena 2\nrule 2\ncontrol 180 2 20000\nwindow 0 3600000\nwave 5000\nleaders 1\n\
+player 2000 - a\nplayer 1990 - b\nplayer 1980 - c\nbegin\n";
+
+const GAME: &str = "0 0 enter 0\n0 0 enter 1\n1000 0 wave 2\n";
+
+const BLITZ_GAME: &str = "0 0 enter 0\n0 0 enter 1\n0 0 wave 2\n1000 0 act 0 0 move e2e4\n\
+2000 0 act 1 0 move e7e5\n";
+
+const MATE: &str =
+    "1000 0 act 0 0 berserk\n2000 0 act 0 0 move f2f3\n3000 0 act 1 0 move e7e5\n4000 0 act 0 0 move g2g4\n\
+5000 0 act 1 0 move d8h4\nend\n";
+
+const STALEMATE: &str =
+    "1000 0 act 0 0 move e2e3\n1000 0 act 1 0 move a7a5\n1000 0 act 0 0 move d1h5\n1000 0 act 1 0 move a8a6\n\
+1000 0 act 0 0 move h5a5\n1000 0 act 1 0 move h7h5\n1000 0 act 0 0 move h2h4\n1000 0 act 1 0 move a6h6\n\
+1000 0 act 0 0 move a5c7\n1000 0 act 1 0 move f7f6\n1000 0 act 0 0 move c7d7\n1000 0 act 1 0 move e8f7\n\
+1000 0 act 0 0 move d7b7\n1000 0 act 1 0 move d8d3\n1000 0 act 0 0 move b7b8\n1000 0 act 1 0 move d3h7\n\
+1000 0 act 0 0 move b8c8\n1000 0 act 1 0 move f7g6\n1000 0 act 0 0 move c8e6\nend\n";
+
+const FIVE_TIMES: &str =
+    "1000 0 act 0 0 move e2e4\n1000 0 act 1 0 move e7e5\n1000 0 act 0 0 move d2d4\n1000 0 act 1 0 move d7d5\n\
+1000 0 act 0 0 move g1f3\n1000 0 act 1 0 move g8f6\n1000 0 act 0 0 move f3g1\n1000 0 act 1 0 move f6g8\n\
+1000 0 act 0 0 move g1f3\n1000 0 act 1 0 move g8f6\n1000 0 act 0 0 move f3g1\n1000 0 act 1 0 move f6g8\n\
+1000 0 act 0 0 move g1f3\n1000 0 act 1 0 move g8f6\n1000 0 act 0 0 move f3g1\n1000 0 act 1 0 move f6g8\n\
+1000 0 act 0 0 move g1f3\n1000 0 act 1 0 move g8f6\n1000 0 act 0 0 move f3g1\n1000 0 act 1 0 move f6g8\nend\n";
+
+const BY_RULE_TWO_WAVE: &str =
+    "0 0 enter 0\n0 0 enter 1\n0 0 enter 2\n0 0 wave 3 1-2\n1000 0 act 1 0 resign\n";
+
+// A journal's head, its players, its first and its further entries, and what a replay of it comes to: the table that is written, or
+// the end.
+type Case = [&'static str; 5];
+
+const LEGAL: [Case; 17] = [
+    // the table by rating
+    [
+        HEAD,
+        THREE,
+        "0 0 enter 0\n5 0 enter 2\n",
+        "end\n",
+        "1 carol 2100 0 0 0\n2 alice 2000 0 0 0\ngames 0 entries 2\n",
+    ],
+    // nobody
+    [HEAD, TWO, "", "end\n", "games 0 entries 0\n"],
+    // a mate, by one who did not berserk
+    [
+        HEAD,
+        TWO,
+        GAME,
+        MATE,
+        "1 bob 1900 2 2500 1\n2 alice 2000 0 1400 1\ngames 1 entries 8\n",
+    ],
+    // a stalemate after 19 plies is worth nothing
+    [
+        HEAD,
+        TWO,
+        GAME,
+        STALEMATE,
+        "1 bob 1900 0 2000 1\n2 alice 2000 0 1900 1\ngames 1 entries 22\n",
+    ],
+    // a position that occurs for the fifth time, after 20 plies, is worth a point each
+    [
+        HEAD,
+        TWO,
+        GAME,
+        FIVE_TIMES,
+        "1 bob 1900 1 2000 1\n2 alice 2000 1 1900 1\ngames 1 entries 23\n",
+    ],
+    // a flag falls at the moment, and not before
+    [
+        BLITZ,
+        TWO,
+        BLITZ_GAME,
+        "62000 0 act 0 0 move g1f3\nend\n",
+        "1 bob 1900 2 2500 1\n2 alice 2000 0 1400 1\ngames 1 entries 6\n",
+    ],
+    [
+        BLITZ,
+        TWO,
+        BLITZ_GAME,
+        "61999 0 act 0 0 move g1f3\nend\n",
+        "1 alice 2000 0 0 0\n2 bob 1900 0 0 0\ngames 0 entries 6\n",
+    ],
+    // a game that ends at the arena's end or later does not count
+    [
+        SHORT,
+        TWO,
+        BLITZ_GAME,
+        "62001 0 tick\nend\n",
+        "1 alice 2000 0 0 0\n2 bob 1900 0 0 0\ngames 0 entries 6\n",
+    ],
+    [
+        SHORT,
+        TWO,
+        BLITZ_GAME,
+        "62000 0 tick\nend\n",
+        "1 bob 1900 2 2500 1\n2 alice 2000 0 1400 1\ngames 1 entries 6\n",
+    ],
+    // who was not idle throughout is not paired
+    [
+        HEAD,
+        FOUR,
+        FOUR_ENTER,
+        "10 1 pause 1\n20 1 enter 1\n30 0 wave 4\n30 0 act 2 0 resign\nend\n",
+        "1 d 1970 2 2480 1\n2 c 1980 0 1470 1\n3 a 2000 0 0 0\n4 b 1990 0 0 0\ngames 1 entries 8\n",
+    ],
+    // a player who does not appear loses
+    [
+        HEAD,
+        TWO,
+        "0 0 enter 0\n0 0 enter 1\n0 0 wave 2\n",
+        "20000 0 tick\nend\n",
+        "1 bob 1900 2 2500 1\n2 alice 2000 0 1400 1\ngames 1 entries 4\n",
+    ],
+    // who left plays his game to its end
+    [
+        HEAD,
+        TWO,
+        GAME,
+        "2000 0 leave 0\n3000 0 act 0 0 resign\nend\n",
+        "1 bob 1900 2 2500 1\n2 alice 2000 0 1400 1\ngames 1 entries 5\n",
+    ],
+    // a draw without a move
+    [
+        HEAD,
+        TWO,
+        GAME,
+        "1000 0 act 0 0 offer\n1000 0 act 1 0 accept\nend\n",
+        "1 bob 1900 0 2000 1\n2 alice 2000 0 1900 1\ngames 1 entries 5\n",
+    ],
+    // players of one team do not meet, and a line for each team
+    [
+        TEAMS,
+        "",
+        FOUR_ENTER,
+        "0 0 wave 4\n0 0 act 3 1 resign\nend\n",
+        "1 b 1990 2 2470 1\n2 d 1970 0 1490 1\n3 a 2000 0 0 0\n4 c 1980 0 0 0\nteam 1 Red 2 2470\nteam 2 Blue 0 1490\ngames 1 entries 6\n",
+    ],
+    [
+        TEAMS,
+        "",
+        FOUR_ENTER,
+        "end\n",
+        "1 a 2000 0 0 0\n2 b 1990 0 0 0\n3 c 1980 0 0 0\n4 d 1970 0 0 0\nteam 1 Red 0 0\nteam 2 Blue 0 0\ngames 0 entries 4\n",
+    ],
+    // version 2 lists the pairs of each wave
+    [
+        SECOND,
+        TWO,
+        "0 0 enter 0\n0 0 enter 1\n",
+        "1000 0 wave 2 0-1\nend\n",
+        "1 alice 2000 0 0 0\n2 bob 1900 0 0 0\ngames 0 entries 3\n",
+    ],
+    // whom the second rule left alone is paired first
+    [
+        BY_RULE_TWO,
+        "",
+        BY_RULE_TWO_WAVE,
+        "2000 0 wave 5 0-1\nend\n",
+        "1 c 1980 2 2490 1\n2 b 1990 0 1480 1\n3 a 2000 0 0 0\ngames 1 entries 6\n",
+    ],
+];
+
+const REFUSED: [Case; 15] = [
+    [
+        HEAD,
+        "player 02000 - alice\nbegin\n",
+        "",
+        "end\n",
+        "BadJournal(JournalFault { line: 6, cause: Form })",
+    ],
+    [
+        HEAD,
+        THREE,
+        "0 0 enter 0\n5 0 enter 2\n",
+        "",
+        "BadJournal(JournalFault { line: 12, cause: Ended })",
+    ],
+    [
+        HEAD,
+        THREE,
+        "0 0 enter 0\n5 0 enter 2\n",
+        "end\n ",
+        "BadJournal(JournalFault { line: 13, cause: After })",
+    ],
+    // a bad line decides, also behind an entry that is not allowed
+    [
+        HEAD,
+        TWO,
+        "0 0 leave 0\n0 0 enter 2\n",
+        "end\n",
+        "BadJournal(JournalFault { line: 10, cause: Range })",
+    ],
+    [
+        SECOND,
+        TWO,
+        "0 0 enter 0\n0 0 enter 1\n",
+        "1000 0 wave 2\nend\n",
+        "BadJournal(JournalFault { line: 12, cause: Form })",
+    ],
+    [
+        HEAD,
+        "player 2000 - alice\nbegin\n",
+        "5 0 enter 0\n4 0 pause 0\n",
+        "end\n",
+        "Illegal { line: 9, cause: StampFalls }",
+    ],
+    [
+        HEAD,
+        TWO,
+        "0 0 enter 0\n0 0 enter 1\n0 0 wave 3\n",
+        "end\n",
+        "Illegal { line: 11, cause: WaveNumber }",
+    ],
+    [
+        HEAD,
+        TWO,
+        "0 0 enter 0\n0 0 enter 1\n0 0 wave 2\n",
+        "20000 0 tick\n20000 0 wave 4\nend\n",
+        "Illegal { line: 13, cause: WaveEmpty }",
+    ],
+    [
+        HEAD,
+        TWO,
+        "0 0 enter 0\n0 0 enter 1\n0 0 wave 2\n",
+        "19999 0 tick\nend\n",
+        "Illegal { line: 12, cause: Refused(NothingDue) }",
+    ],
+    [
+        HEAD,
+        TWO,
+        GAME,
+        "2000 0 leave 0\n3000 0 act 0 0 resign\n4000 0 enter 0\nend\n",
+        "Illegal { line: 14, cause: Refused(Left) }",
+    ],
+    [
+        HEAD,
+        TWO,
+        GAME,
+        "1000 0 act 0 0 offer\n1000 0 act 0 0 offer\nend\n",
+        "Illegal { line: 13, cause: Refused(Act(OfferStands)) }",
+    ],
+    [
+        HEAD,
+        FOUR,
+        FOUR_ENTER,
+        "10 1 pause 1\n20 1 enter 1\n30 0 wave 4\n30 0 act 0 0 resign\nend\n",
+        "Illegal { line: 18, cause: Refused(NotYours) }",
+    ],
+    // teams move the lines on
+    [
+        TEAMS,
+        "",
+        "0 0 pause 0\n",
+        "end\n",
+        "Illegal { line: 13, cause: Refused(NotEntered) }",
+    ],
+    [
+        SECOND,
+        TWO,
+        "0 0 enter 0\n0 0 enter 1\n",
+        "1000 0 wave 2 1-0\nend\n",
+        "Illegal { line: 12, cause: PairsDiffer }",
+    ],
+    [
+        BY_RULE_TWO,
+        "",
+        BY_RULE_TWO_WAVE,
+        "2000 0 wave 5 2-1\nend\n",
+        "Illegal { line: 16, cause: PairsDiffer }",
+    ],
+];
+
+// A journal of either version, whose upgrade is the same text.
+const UPGRADED: [Case; 2] = [
+    [HEAD, TWO, GAME, "end\n", IN_SECOND],
+    [
+        SECOND,
+        TWO,
+        "0 0 enter 0\n0 0 enter 1\n",
+        "1000 0 wave 2 0-1\nend\n",
+        IN_SECOND,
+    ],
+];
+
+const IN_SECOND: &str =
+    "arena 2\nrule 1\ncontrol 180 2 20000\nwindow 0 3600000\nwave 5000\nleaders 1\nplayer 2000 - alice\nplayer 1900 - bob\n\
+begin\n0 0 enter 0\n0 0 enter 1\n1000 0 wave 2 0-1\nend\n";
+
+// Which call is tried.
+#[derive(Debug, Clone, Copy, PartialEq, Eq)]
+enum Call {
+    Replay,
+    Upgrade,
 }
 
-// A replay of the text of these parts, which comes and goes in pieces of so many bytes. One read and one write may fail.
-fn replay_of(
+// The bytes of a case's journal, which come 50 at a time.
+fn source_of(alloc: Global, case: &Case, failing: Vec<u64>) -> Result<MemSource, AllocError> {
+    let [head, players, first, further, _] = *case;
+    let text = format!(in alloc; "{head}{players}{first}{further}")?;
+    Ok(MemSource::new(text.into_bytes(), 50, failing))
+}
+
+// The call ends as is wanted: a legal journal has its text written, and of any other nothing is.
+fn says<R: Abort>(
+    rt: &R,
     alloc: Global,
-    parts: &[&str],
-    piece: usize,
-    read: Option<u64>,
-    write: Option<u64>,
-) -> Result<Replayed, AllocError>
-    requires { 1 ≤ piece }
-{
-    let mut bytes = Vec::new(alloc);
-    for part in parts {
-        bytes.extend_from_slice(part.as_bytes())?;
+    end: ReplayEnd,
+    sink: &MemSink,
+    wanted: &str,
+) -> Result<(), Fail> {
+    if end == ReplayEnd::Done {
+        assert!(rt; sink.bytes() == wanted.as_bytes(), "{wanted}");
+        return Ok(());
     }
-    let mut source = MemSource::new(bytes, piece, calls(alloc, read)?);
-    let mut sink = MemSink::new(alloc, 1000, piece, calls(alloc, write)?)?;
-    let end = replay(alloc, &mut source, &mut sink);
-    Ok(Replayed {
-        end,
-        written: Vec::from_slice(alloc, sink.bytes())?,
-        unread: source.rest().len(),
-    })
+    let told = format!(in alloc; "{end:?}")?;
+    assert!(rt; told.as_str() == wanted, "{wanted} and not {told}");
+    assert!(rt; sink.bytes().is_empty(), "{wanted} and nothing more");
+    Ok(())
 }
 
-fn calls(alloc: Global, call: Option<u64>) -> Result<Vec<u64>, AllocError> {
+fn tries<R: Threads + Sync + Abort>(
+    rt: &R,
+    alloc: Global,
+    call: Call,
+    case: &Case,
+) -> Result<(), Fail> {
+    let mut sink = MemSink::new(alloc, 1000, 50, Vec::new(alloc))?;
+    let mut source = source_of(alloc, case, Vec::new(alloc))?;
+    let end = match call {
+        Call::Replay => replay(rt, alloc, &mut source, &mut sink),
+        Call::Upgrade => upgrade(rt, alloc, &mut source, &mut sink),
+    };
+    says(rt, alloc, end, &sink, case[4])
+}
+
+fn tries_all<R: Threads + Sync + Abort>(
+    rt: &R,
+    alloc: Global,
+    call: Call,
+    cases: &[Case],
+) -> Result<(), Fail> {
+    for case in cases {
+        tries(rt, alloc, call, case)?;
+    }
+    Ok(())
+}
+
+#[test]
+fn a_text_has_its_table_or_its_first_fault(rt: HostRuntime) -> Result<(), Fail> {
+    tries_all(&rt, rt.alloc(), Call::Replay, &LEGAL)?;
+    tries_all(&rt, rt.alloc(), Call::Replay, &REFUSED)
+}
+
+#[test]
+fn an_upgrade_writes_version_2_with_the_pairs_of_each_wave(rt: HostRuntime) -> Result<(), Fail> {
+    tries_all(&rt, rt.alloc(), Call::Upgrade, &UPGRADED)?;
+    tries_all(&rt, rt.alloc(), Call::Upgrade, &REFUSED)
+}
+
+// The numbers of the one call that fails, if one does.
+fn failing(alloc: Global, call: Option<u64>) -> Result<Vec<u64>, AllocError> {
     let mut calls = Vec::new(alloc);
     if let Some(call) = call {
         calls.push(call)?;
@@ -57,257 +397,32 @@ fn calls(alloc: Global, call: Option<u64>) -> Result<Vec<u64>, AllocError> {
     Ok(calls)
 }
 
-#[test]
-fn a_legal_journal_has_its_table(rt: HostRuntime) -> Result<(), Fail> {
-    let cases = [
-        (WITH_CAROL, TWO_ENTER, TABLE_OF_TWO),
-        (ALICE_AND_BOB, "end\n", "games 0 entries 0\n"),
-        // who left or paused stands in the table too, and who came back stands there once
-        (
-            ALICE_AND_BOB,
-            "0 0 enter 1\n0 3 enter 0\n9 0 leave 0\nend\n",
-            "1 alice 2000 0 0 0\n2 bob 1900 0 0 0\ngames 0 entries 3\n",
-        ),
-        (
-            ALICE_AND_BOB,
-            "0 0 enter 1\n1 0 pause 1\n2 0 enter 1\n3 0 pause 1\n3 0 leave 1\nend\n",
-            "1 bob 1900 0 0 0\ngames 0 entries 5\n",
-        ),
-        // of two with one rating the first who entered stands above
-        (
-            "player 2000 - alice\nplayer 2000 - bob\nbegin\n",
-            "0 0 enter 1\n0 0 enter 0\nend\n",
-            "1 bob 2000 0 0 0\n2 alice 2000 0 0 0\ngames 0 entries 2\n",
-        ),
-        // a leave at the last moment
-        (
-            ALICE_AND_BOB,
-            "0 0 enter 1\n3599999 0 leave 1\nend\n",
-            "1 bob 1900 0 0 0\ngames 0 entries 2\n",
-        ),
-    ];
-    for (players, entries, table) in cases {
-        for piece in [1, 7, 1000] {
-            let had = replay_of(rt.alloc(), &[HEAD, players, entries], piece, None, None)?;
-            assert_eq!(rt; had.end, ReplayEnd::Done);
-            assert_eq!(rt; had.written.as_slice(), table.as_bytes());
-            assert_eq!(rt; had.unread, 0);
-        }
-    }
-    Ok(())
-}
-
-const BATTLE: &str =
-    "arena 1\ncontrol 180 2 20000\nwindow 0 3600000\nwave 5000\nleaders 2\nteam Red\n\
-team Blue\nplayer 2000 0 a\nplayer 1990 0 b\nplayer 1980 1 c\nplayer 1970 1 d\nbegin\n";
-
-#[test]
-fn a_battle_of_teams_has_a_line_for_each_team(rt: HostRuntime) -> Result<(), Fail> {
-    let cases = [
-        (
-            "0 0 enter 0\n0 0 enter 1\n0 0 enter 2\n0 0 enter 3\nend\n",
-            "1 a 2000 0 0 0\n2 b 1990 0 0 0\n3 c 1980 0 0 0\n4 d 1970 0 0 0\n\
-team 1 Red 0 0\nteam 2 Blue 0 0\ngames 0 entries 4\n",
-        ),
-        // a team of which nobody entered has its line too
-        (
-            "0 0 enter 3\nend\n",
-            "1 d 1970 0 0 0\nteam 1 Red 0 0\nteam 2 Blue 0 0\ngames 0 entries 1\n",
-        ),
-        (
-            "end\n",
-            "team 1 Red 0 0\nteam 2 Blue 0 0\ngames 0 entries 0\n",
-        ),
-    ];
-    for (entries, table) in cases {
-        let had = replay_of(rt.alloc(), &[BATTLE, entries], 9, None, None)?;
-        assert_eq!(rt; had.end, ReplayEnd::Done);
-        assert_eq!(rt; had.written.as_slice(), table.as_bytes());
-        assert_eq!(rt; had.unread, 0);
-    }
-    Ok(())
+// How a replay of two who entered ends where such a read and such a write fail, and how many bytes it wrote.
+fn hindered<R: Threads + Sync>(
+    rt: &R,
+    alloc: Global,
+    read: Option<u64>,
+    write: Option<u64>,
+) -> Result<(ReplayEnd, usize), AllocError> {
+    let mut sink = MemSink::new(alloc, 1000, 10, failing(alloc, write)?)?;
+    let mut source = source_of(alloc, &LEGAL[0], failing(alloc, read)?)?;
+    let end = replay(rt, alloc, &mut source, &mut sink);
+    Ok((end, sink.bytes().len()))
 }
 
 #[test]
-fn what_is_no_journal_is_refused_with_its_first_bad_line(rt: HostRuntime) -> Result<(), Fail> {
-    let cases = [
-        (
-            "player 02000 - alice\nbegin\n",
-            "end\n",
-            6,
-            JournalCause::Form,
-        ),
-        (
-            WITH_CAROL,
-            "0 0 enter 0\n5 0 enter 2\n",
-            12,
-            JournalCause::Ended,
-        ),
-        (
-            WITH_CAROL,
-            "0 0 enter 0\n5 0 enter 2\nend\n ",
-            13,
-            JournalCause::After,
-        ),
-        (
-            ALICE_AND_BOB,
-            "0 0 wave 0\nend\n",
-            9,
-            JournalCause::NotBuilt,
-        ),
-        (ALICE_AND_BOB, "0 0 pause 2\nend\n", 9, JournalCause::Range),
-        (
-            "player 2000 - bob\nplayer 1900 - bob\nbegin\n",
-            "end\n",
-            7,
-            JournalCause::Repeat,
-        ),
-        // a bad line decides, also behind an entry that is not allowed
-        (
-            ALICE_AND_BOB,
-            "0 0 leave 0\n0 0 enter 2\nend\n",
-            10,
-            JournalCause::Range,
-        ),
-    ];
-    for (players, entries, line, cause) in cases {
-        let had = replay_of(rt.alloc(), &[HEAD, players, entries], 50, None, None)?;
-        assert_eq!(rt;
-            had.end,
-            ReplayEnd::BadJournal(JournalFault { line, cause }),
-            "{entries}"
-        );
-        assert_eq!(rt; had.written.len(), 0);
-        assert_eq!(rt; had.unread, 0);
-    }
-    Ok(())
-}
-
-// The entries of a journal of alice and bob, or of one with two teams before them, and the line and the cause of the first
-// that is not allowed.
-struct Refused {
-    entries: &'static str,
-    line: u64,
-    cause: IllegalCause,
-}
-
-const REFUSED: [Refused; 13] = [
-    Refused {
-        entries: "5 0 enter 0\n4 0 enter 1\nend\n",
-        line: 10,
-        cause: IllegalCause::StampFalls,
-    },
-    // a stamp that falls comes before a refusal
-    Refused {
-        entries: "5 0 enter 0\n4 0 enter 0\nend\n",
-        line: 10,
-        cause: IllegalCause::StampFalls,
-    },
-    Refused {
-        entries: "0 0 enter 0\n0 0 enter 0\nend\n",
-        line: 10,
-        cause: IllegalCause::Refused(Refusal::AlreadyIn),
-    },
-    Refused {
-        entries: "0 0 leave 0\nend\n",
-        line: 9,
-        cause: IllegalCause::Refused(Refusal::NotEntered),
-    },
-    Refused {
-        entries: "0 0 pause 0\nend\n",
-        line: 9,
-        cause: IllegalCause::Refused(Refusal::NotEntered),
-    },
-    Refused {
-        entries: "0 0 enter 0\n0 0 pause 0\n0 0 pause 0\nend\n",
-        line: 11,
-        cause: IllegalCause::Refused(Refusal::AlreadyPaused),
-    },
-    // who left stays away, who paused before too
-    Refused {
-        entries: "0 0 enter 0\n1 0 leave 0\n2 0 enter 0\nend\n",
-        line: 11,
-        cause: IllegalCause::Refused(Refusal::Left),
-    },
-    Refused {
-        entries: "0 0 enter 0\n1 0 pause 0\n1 0 leave 0\n2 0 pause 0\nend\n",
-        line: 12,
-        cause: IllegalCause::Refused(Refusal::Left),
-    },
-    Refused {
-        entries: "0 0 enter 0\n1 0 leave 0\n2 0 leave 0\nend\n",
-        line: 11,
-        cause: IllegalCause::Refused(Refusal::Left),
-    },
-    // the arena is over, whatever is asked for
-    Refused {
-        entries: "3600000 0 enter 0\nend\n",
-        line: 9,
-        cause: IllegalCause::Refused(Refusal::Closed),
-    },
-    Refused {
-        entries: "0 0 enter 1\n3600000 0 leave 0\nend\n",
-        line: 10,
-        cause: IllegalCause::Refused(Refusal::Closed),
-    },
-    Refused {
-        entries: "0 0 enter 1\n3599999 0 pause 1\n3600000 0 pause 1\nend\n",
-        line: 11,
-        cause: IllegalCause::Refused(Refusal::Closed),
-    },
-    // of two entries that are not allowed the first decides
-    Refused {
-        entries: "0 0 enter 0\n0 0 pause 1\n0 0 enter 0\nend\n",
-        line: 10,
-        cause: IllegalCause::Refused(Refusal::NotEntered),
-    },
-];
-
-#[test]
-fn a_journal_that_is_not_legal_is_refused_with_the_line_of_its_first_such_entry(
-    rt: HostRuntime,
-) -> Result<(), Fail> {
-    for refused in &REFUSED {
-        for (teams, more) in [("", 0), ("team Red\nteam Blue\n", 2)] {
-            let parts = [HEAD, teams, ALICE_AND_BOB, refused.entries];
-            let had = replay_of(rt.alloc(), &parts, 50, None, None)?;
-            let (line, cause) = (refused.line.saturating_add(more), refused.cause);
-            assert_eq!(rt;
-                had.end,
-                ReplayEnd::Illegal { line, cause },
-                "{}",
-                refused.entries
-            );
-            assert_eq!(rt; had.written.len(), 0);
-            assert_eq!(rt; had.unread, 0);
-        }
-    }
-    Ok(())
-}
-
-#[test]
-fn a_read_that_fails_at_any_place_is_told_and_nothing_is_written(
-    rt: HostRuntime,
-) -> Result<(), Fail> {
-    let parts = [HEAD, WITH_CAROL, TWO_ENTER];
-    let bytes = HEAD.len() + WITH_CAROL.len() + TWO_ENTER.len();
-    // one read for each 10 bytes, and the one that finds the end
-    for call in 0..u64::try_from(bytes.div_ceil(10) + 1).unwrap_or(0) {
-        let had = replay_of(rt.alloc(), &parts, 10, Some(call), None)?;
-        assert_eq!(rt; had.end, ReplayEnd::ReadFault, "read {call}");
-        assert_eq!(rt; had.written.len(), 0);
-    }
-    Ok(())
-}
-
-#[test]
-fn a_write_that_fails_at_any_place_leaves_what_came_before(rt: HostRuntime) -> Result<(), Fail> {
-    let parts = [HEAD, WITH_CAROL, TWO_ENTER];
-    for call in 0..TABLE_OF_TWO.len().div_ceil(10) {
-        let had = replay_of(rt.alloc(), &parts, 10, None, u64::try_from(call).ok())?;
-        assert_eq!(rt; had.end, ReplayEnd::WriteFault, "write {call}");
-        let before = TABLE_OF_TWO.as_bytes().get(..call.saturating_mul(10));
-        assert_eq!(rt; Some(had.written.as_slice()), before);
-    }
+fn a_failure_is_told_and_leaves_what_was_written_before(rt: HostRuntime) -> Result<(), Fail> {
+    assert_eq!(rt;
+        hindered(&rt, rt.alloc(), Some(2), None)?,
+        (ReplayEnd::ReadFault, 0)
+    );
+    assert_eq!(rt;
+        hindered(&rt, rt.alloc(), None, Some(0))?,
+        (ReplayEnd::WriteFault, 0)
+    );
+    assert_eq!(rt;
+        hindered(&rt, rt.alloc(), None, Some(3))?,
+        (ReplayEnd::WriteFault, 30)
+    );
     Ok(())
 }

@@ -1,0 +1,10 @@
+mod Committed
+mod Counted
+mod Exact
+mod Firsts
+mod Listed
+mod Next
+mod Planned
+mod Started
+mod Tried
+mod Used

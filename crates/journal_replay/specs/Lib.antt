@@ -1,0 +1,4 @@
+pub mod Causes
+pub mod Legal
+pub mod Plans
+pub mod Replays

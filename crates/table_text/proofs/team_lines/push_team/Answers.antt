@@ -1,0 +1,12 @@
+use Rattle.std.proofs.Common.{◌∙◌, ap, ◌+◌, ◌++◌, ◌∷◌, [], codes}
+use Rattle.std.specs.Fmt.{decimal}
+use Rattle.table_text.proofs.TeamLines.{team_pushed}
+use Rattle.table_text.proofs.team_lines.push_team.Goals as goal
+
+pub returns : goal.returns
+returns c =
+    team_pushed c.extend_from_slice-4.result c.args.name.now c.args.row.now
+    c.args.text.now.items c.extend_from_slice.new.self.items c.extend_from_slice-2.new.self.items c.extend_from_slice-3.new.self.items c.extend_from_slice-4.new.self.items
+    c.as_bytes.result.now c.bytes.result.now c.as_bytes-2.result.now
+    (c.as_bytes.ensures.value ∙ c.in_ok-front.ensures.ok ∙ ap (λ r. codes "team " ++ (decimal (r + 1) ++ 32 ∷ [])) c.from.ensures) c.bytes.ensures (c.as_bytes-2.ensures.value ∙ c.in_ok-back.ensures)
+    c.in_ok-extend_from_slice.ensures.items c.in_ok-extend_from_slice-2.ensures.items c.in_ok-extend_from_slice-3.ensures.items c.extend_from_slice-4.ensures.items

@@ -1,0 +1,16 @@
+mod Movers
+mod Shapes
+mod Letters
+mod Apart
+mod OneMove
+mod Targets
+mod Finding
+mod Laying
+mod Leads
+mod Words
+mod Spelled
+mod WrittenGames
+mod Places
+mod Turns
+mod ReadGames
+mod Naming

@@ -1,6 +1,7 @@
 //! Connections in memory.
 
-ghost use Rattle.std.specs.Prelude.{◌≤◌, length};
+ghost use Rattle.std.specs.Prelude.{◌≡◌, ◌≤◌, length};
+ghost use Rattle.entries.specs.Ranges.{IsGood};
 ghost use Rattle.arena_lock.specs.Turns.{IsReady};
 ghost use Rattle.host.specs.Asked.{AreKeysOfPlayers};
 
@@ -144,6 +145,27 @@ pub fn first_comes_to<R: Wait + Abort>(
     Err(Fail::from(AllocError))
 }
 
+/// The game of alice and bob begins, and then the connection comes to what is wanted.
+fn begun_comes_to<R: Threads + Wait + Abort + Sync>(
+    rt: &R,
+    alloc: Global,
+    lobby: &Lobby,
+    keys: &Keys,
+    pass: &mut Pass,
+    line: &mut Line,
+    wanted: &Wanted,
+) -> Result<(), AllocError>
+    requires good { IsGood lobby.now.fixed }
+    requires four { length lobby.now.fixed.players ≡ 4 }
+    requires ready { IsReady lobby.now pass.old }
+    requires keys { AreKeysOfPlayers (length lobby.now.fixed.players) keys.now }
+{
+    let began = begin_game(rt, alloc, lobby, pass)?;
+    assert!(rt; began);
+    comes_to(rt, alloc, lobby, keys, pass, line, wanted);
+    Ok(())
+}
+
 /// A connection at 2000, before which the game of alice and bob has begun by three entries, comes to what is wanted.
 pub fn in_game_comes_to<R: Threads + Wait + Abort + Sync>(
     rt: &R,
@@ -158,9 +180,7 @@ pub fn in_game_comes_to<R: Threads + Wait + Abort + Sync>(
     let mut line = connection(alloc, bytes, wires, 2_000)?;
     let (lobby, mut passes) = opened(alloc, setup, 1)?;
     if let Some(mut pass) = passes.pop() {
-        let began = begin_game(rt, alloc, &lobby, &mut pass)?;
-        assert!(rt; began);
-        comes_to(rt, alloc, &lobby, &keys, &mut pass, &mut line, wanted);
+        begun_comes_to(rt, alloc, &lobby, &keys, &mut pass, &mut line, wanted)?;
         return Ok(());
     }
     Err(Fail::from(AllocError))

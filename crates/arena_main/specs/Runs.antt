@@ -5,6 +5,8 @@ use Rattle.replay.specs.declared.replay_end.ReplayEnd.{ReplayEnd}
 use Rattle.replay.specs.declared.replay_end.ReplayEnd.TheVariants as end
 use Rattle.arena_main.specs.declared.status.Status.{Status}
 use Rattle.arena_main.specs.declared.status.Status.TheVariants.{Done, BadWords, BadJournal, Illegal, TooLong, ReadFault, WriteFault, OutOfMemory}
+use Rattle.replay.specs.declared.replaying.Wanted.{Wanted}
+use Rattle.replay.specs.declared.replaying.Wanted.TheVariants.{Table, Upgraded, Games}
 use Rattle.replay.specs.Fates as fate
 use Rattle.replay.specs.Fates.{Fate}
 use Rattle.replay.specs.Replayed.{Replayed}
@@ -16,17 +18,15 @@ use Rattle.arena_main.specs.Words.{cause_line, journal_word, illegal_word}
 use Rattle.arena_main.specs.declared.telling.TellFault.{TellFault}
 use Rattle.arena_main.specs.declared.telling.TellFault.TheVariants as hindered
 
--- the words are the one word `replay`
-abbrev pub IsReplay : List (List ℕ) → Type 0
-IsReplay words = words ≡ codes "replay" ∷ []
-
--- the words are the one word `upgrade`
-abbrev pub IsUpgrade : List (List ℕ) → Type 0
-IsUpgrade words = words ≡ codes "upgrade" ∷ []
+-- the words are the one word that asks for this of a journal
+abbrev pub Asks : List (List ℕ) → Wanted → Type 0
+Asks words Table = words ≡ codes "replay" ∷ []
+Asks words Upgraded = words ≡ codes "upgrade" ∷ []
+Asks words Games = words ≡ codes "pgn" ∷ []
 
 -- what is written for other words
 abbrev pub usage : List ℕ
-usage = codes "usage: arena_main replay | upgrade | gen SEED PLAYERS | serve SETUP PORT WORKERS JOURNAL\n"
+usage = codes "usage: arena_main replay | upgrade | pgn | gen SEED PLAYERS | serve SETUP PORT WORKERS JOURNAL\n"
 
 -- a run whose words are none of its forms: it has written the usage line, or a beginning of it where a write failed
 abbrev pub RefusesWords : Option (List ℕ) → Option (List ℕ) → Status → Type 0

@@ -1,6 +1,7 @@
 //! The program: `replay` reads the journal of an arena from standard input and writes its table, `upgrade` writes the journal
-//! itself in version 2, and both write the line that says where and why it is none, or not legal. What it does stands in `run`,
-//! over any source and any sink; `main` hands it the words of the command line and the real input and output.
+//! itself in version 2, `pgn` its games in PGN, and all three write the line that says where and why it is none, or not legal.
+//! What it does stands in `run`, over any source and any sink; `main` hands it the words of the command line and the real input
+//! and output.
 #![tactic(auto)]
 
 mod running;

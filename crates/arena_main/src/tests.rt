@@ -6,7 +6,7 @@ use std::test::Fail;
 use std::thread::Threads;
 
 const USAGE: &str =
-    "usage: arena_main replay | upgrade | gen SEED PLAYERS | serve SETUP PORT WORKERS JOURNAL\n";
+    "usage: arena_main replay | upgrade | pgn | gen SEED PLAYERS | serve SETUP PORT WORKERS JOURNAL\n";
 
 const ONE: &str =
     "arena 1\ncontrol 180 2 20000\nwindow 0 3600000\nwave 5000\nleaders 1\nplayer 2000 - alice\nbegin\n";
@@ -21,7 +21,7 @@ begin\n";
 // The program's word, a journal's head and its entries, its status and what is written.
 type Case = [&'static str; 5];
 
-const CASES: [Case; 18] = [
+const CASES: [Case; 19] = [
     [
         "replay",
         TWO,
@@ -36,6 +36,14 @@ const CASES: [Case; 18] = [
         "Done",
         "arena 2\nrule 1\ncontrol 180 2 20000\nwindow 0 3600000\nwave 5000\nleaders 1\nplayer 2000 - alice\nplayer 1900 - bob\n\
 begin\n0 0 enter 0\n0 0 enter 1\n1000 0 wave 2 0-1\nend\n",
+    ],
+    [
+        "pgn",
+        TWO,
+        "0 0 enter 0\n0 0 enter 1\n1000 0 wave 2\n2000 0 act 0 0 move e2e4\n3000 0 act 0 0 resign\nend\n",
+        "Done",
+        "[Event \"Arena\"]\n[Site \"?\"]\n[Date \"????.??.??\"]\n[Round \"0\"]\n[White \"alice\"]\n[Black \"bob\"]\n\
+[Result \"0-1\"]\n\n1. e4 0-1\n\n",
     ],
     [
         "replay",

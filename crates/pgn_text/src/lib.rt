@@ -25,5 +25,5 @@ pub use game::{PgnGame, PgnResult, Tag};
 pub use named::read_san;
 pub use notation::one_san_is_one_move;
 pub use read_game::{read_pgn, written_is_read};
-pub use write_game::write_pgn;
+pub use write_game::{result_text, write_pgn};
 pub use written::write_san;

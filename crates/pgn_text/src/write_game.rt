@@ -122,8 +122,8 @@ fn next_number(turn: Colour, number: u64) -> u64
     }
 }
 
-/// The last token.
-fn result_text(ending: PgnResult) -> &'static str
+/// The last token of a game's text.
+pub fn result_text(ending: PgnResult) -> &'static str
     ensures is { result.now ≡ result_text ending }
     ensures short { length result.now ≤ 7 }
 {

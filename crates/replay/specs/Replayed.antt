@@ -1,4 +1,4 @@
--- What becomes of a text of bytes: its journal's table and the journal in version 2, or why it has none.
+-- What becomes of a text of bytes: its journal's table, the journal in version 2 and its games, or why it has none.
 use Rattle.std.specs.Prelude.{◌≡◌, ℕ, ◌<◌, ◌≤◌, List, length, Some}
 use Rattle.entries.specs.declared.journal.Entry.{Entry}
 use Rattle.entries.specs.declared.journal.Journal.{Journal}
@@ -11,7 +11,8 @@ use Rattle.journal_replay.specs.Causes.{first_illegal}
 use Rattle.journal_replay.specs.Legal.{IsLegalJournal}
 use Rattle.replay.specs.Fates.{Fate, TooLong, BadJournal, Illegal, Legal}
 use Rattle.replay.specs.declared.replaying.Wanted.{Wanted}
-use Rattle.replay.specs.declared.replaying.Wanted.TheVariants.{Table, Upgraded}
+use Rattle.replay.specs.declared.replaying.Wanted.TheVariants.{Table, Upgraded, Games}
+use Rattle.games_text.specs.GameTexts.{games_text}
 use Rattle.table_text.specs.Table.{table}
 
 -- this line of a journal's text has its first entry that is not allowed, which is not for this cause
@@ -39,10 +40,15 @@ table_of j = table j.setup j.entries
 abbrev pub upgraded : Journal → List ℕ
 upgraded j = text_of (journal_of j.setup j.entries)
 
--- what is wanted of entries over a setup: their table, or their journal in version 2
+-- the texts of a journal's games that count
+abbrev pub games_of : Journal → List ℕ
+games_of j = games_text j.setup j.entries
+
+-- what is wanted of entries over a setup: their table, or their journal in version 2, or the texts of their games
 abbrev pub wanted_text : Wanted → Setup → List Entry → List ℕ
 wanted_text Table s es = table s es
 wanted_text Upgraded s es = text_of (journal_of s es)
+wanted_text Games s es = games_text s es
 
 -- what is written of a legal journal, by what is wanted
 abbrev pub written : Wanted → Journal → List ℕ

@@ -4,7 +4,7 @@ ghost use Rattle.entries.specs.declared.journal.Entry.{Entry};
 ghost use Rattle.conn.specs.Faults.{Rose};
 ghost use Rattle.conn.specs.Told.{GaveAtMost};
 ghost use Rattle.replay.specs.Fates.{Fate};
-ghost use Rattle.replay.specs.Replayed.{Replayed, table_of, upgraded, wanted_text, written};
+ghost use Rattle.replay.specs.Replayed.{Replayed, table_of, upgraded, games_of, wanted_text, written};
 ghost use Rattle.replay.specs.Replays.{Ends, Judges, MeetsFate};
 
 use crate::laws::one_fate;
@@ -13,6 +13,7 @@ use crate::replay_end::ReplayEnd;
 use crate::upgrading::write_upgraded;
 use arena_core::Arena;
 use conn::{ReadAllFault, Sink, Source, Text, read_all, write_all};
+use games_text::write_games;
 use std::alloc::{AllocError, Global};
 use std::thread::Threads;
 use table_text::write_table;
@@ -27,6 +28,8 @@ pub enum Wanted {
     Table,
     /// The journal itself, in version 2.
     Upgraded,
+    /// Its games that count, in the text that every chess program reads.
+    Games,
 }
 
 // What is wanted of an arena's journal. It fails only for want of memory.
@@ -37,6 +40,7 @@ fn write_text(alloc: Global, arena: Arena, wanted: Wanted) -> Result<Text, Alloc
     match wanted {
         Wanted::Table => write_table(alloc, &arena),
         Wanted::Upgraded => write_upgraded(alloc, arena),
+        Wanted::Games => write_games(alloc, &arena),
     }
 }
 
@@ -144,4 +148,25 @@ pub fn upgrade<R: Threads + Sync, S: Source, K: Sink>(
     ensures taken { GaveAtMost (S.left source.old) (S.left source.new) (MOST_BYTES + 1) }
 {
     write_wanted(rt, alloc, source, sink, Wanted::Upgraded)
+}
+
+/// Reads a journal of either version to its end, and if it is legal writes its games that count in PGN, in the order in which they
+/// ended. All else is as with `replay`: after `WriteFault` a beginning of these texts was written.
+pub fn pgn<R: Threads + Sync, S: Source, K: Sink>(
+    rt: &R,
+    alloc: Global,
+    source: &mut S,
+    sink: &mut K,
+) -> ReplayEnd
+    ensures ends { Ends games_of (S.left source.old) (S.left source.new)
+        (K.held sink.old) (K.held sink.new) result }
+    ensures complete { IfSome (S.left source.old) (λ bytes. (fate : Fate) → Replayed bytes fate → MeetsFate fate result) }
+    ensures untouched { result ≢ ReplayEnd.Done → result ≢ ReplayEnd.WriteFault → sink.new ≡ sink.old }
+    ensures read_fault { result ≡ ReplayEnd.ReadFault
+        → Rose (S.faults source.old) (S.faults source.new) }
+    ensures write_fault { result ≡ ReplayEnd.WriteFault
+        → Rose (K.faults sink.old) (K.faults sink.new) }
+    ensures taken { GaveAtMost (S.left source.old) (S.left source.new) (MOST_BYTES + 1) }
+{
+    write_wanted(rt, alloc, source, sink, Wanted::Games)
 }

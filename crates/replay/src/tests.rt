@@ -1,4 +1,4 @@
-use crate::{ReplayEnd, replay, upgrade};
+use crate::{ReplayEnd, pgn, replay, upgrade};
 use conn::{MemSink, MemSource};
 use std::alloc::{AllocError, Global};
 use std::process::Abort;
@@ -317,11 +317,33 @@ const IN_SECOND: &str =
     "arena 2\nrule 1\ncontrol 180 2 20000\nwindow 0 3600000\nwave 5000\nleaders 1\nplayer 2000 - alice\nplayer 1900 - bob\n\
 begin\n0 0 enter 0\n0 0 enter 1\n1000 0 wave 2 0-1\nend\n";
 
+// A journal whose games are written: those that ended in time, without a move that came too late.
+const PLAYED: [Case; 3] = [
+    [
+        HEAD,
+        TWO,
+        GAME,
+        MATE,
+        "[Event \"Arena\"]\n[Site \"?\"]\n[Date \"????.??.??\"]\n[Round \"0\"]\n[White \"alice\"]\n[Black \"bob\"]\n\
+[Result \"0-1\"]\n\n1. f3 e5 2. g4 Qh4# 0-1\n\n",
+    ],
+    [
+        BLITZ,
+        TWO,
+        BLITZ_GAME,
+        "62000 0 act 0 0 move g1f3\nend\n",
+        "[Event \"Arena\"]\n[Site \"?\"]\n[Date \"????.??.??\"]\n[Round \"0\"]\n[White \"alice\"]\n[Black \"bob\"]\n\
+[Result \"0-1\"]\n\n1. e4 e5 0-1\n\n",
+    ],
+    [HEAD, TWO, GAME, "end\n", ""],
+];
+
 // Which call is tried.
 #[derive(Debug, Clone, Copy, PartialEq, Eq)]
 enum Call {
     Replay,
     Upgrade,
+    Pgn,
 }
 
 // The bytes of a case's journal, which come 50 at a time.
@@ -360,6 +382,7 @@ fn tries<R: Threads + Sync + Abort>(
     let end = match call {
         Call::Replay => replay(rt, alloc, &mut source, &mut sink),
         Call::Upgrade => upgrade(rt, alloc, &mut source, &mut sink),
+        Call::Pgn => pgn(rt, alloc, &mut source, &mut sink),
     };
     says(rt, alloc, end, &sink, case[4])
 }
@@ -386,6 +409,12 @@ fn a_text_has_its_table_or_its_first_fault(rt: HostRuntime) -> Result<(), Fail> 
 fn an_upgrade_writes_version_2_with_the_pairs_of_each_wave(rt: HostRuntime) -> Result<(), Fail> {
     tries_all(&rt, rt.alloc(), Call::Upgrade, &UPGRADED)?;
     tries_all(&rt, rt.alloc(), Call::Upgrade, &REFUSED)
+}
+
+#[test]
+fn the_games_that_ended_are_written(rt: HostRuntime) -> Result<(), Fail> {
+    tries_all(&rt, rt.alloc(), Call::Pgn, &PLAYED)?;
+    tries_all(&rt, rt.alloc(), Call::Pgn, &REFUSED)
 }
 
 // The numbers of the one call that fails, if one does.

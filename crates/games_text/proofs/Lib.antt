@@ -1,0 +1,5 @@
+mod Lines
+mod Noted
+mod Sendings
+mod Tags
+mod Counted

@@ -1,0 +1,2 @@
+pub mod GameTexts
+pub mod Sent

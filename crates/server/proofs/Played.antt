@@ -1,0 +1,58 @@
+-- The workers of an evening, each beside its pass, before they work and once they have ended.
+use Rattle.std.proofs.Common.{◌≡◌, ℕ, ◌<◌, ◌+◌, zero, suc, List, [], ◌∷◌, ◌++◌, length, map, take, Option, refl, sym, ap, ◌∙◌, subst, arith}
+use Rattle.std.specs.Prelude.{slice_index_or, vec_len}
+use Rattle.std.specs.List.{All, zip}
+use mathlib.Core.List.{IsPrefix}
+use Rattle.entries.specs.declared.journal.Entry.{Entry}
+use Rattle.entries.specs.declared.setup.Setup.{Setup}
+use Rattle.turnstile.specs.Passes.{Lock}
+use Rattle.arena_lock.specs.Turns.{IsReady, Pass}
+use Rattle.arena_rules.specs.Legal.{IsLegal}
+use Rattle.server.specs.declared.shift.Shift.{Shift}
+use Rattle.server.specs.declared.workers.Worker.{Worker}
+use Rattle.server.specs.Evenings.{HasEnded, IsEvening}
+use Rattle.server.specs.Shifts.{HasWorked}
+use Rattle.server.proofs.Pairs.{firsts, seconds}
+use Rattle.server.proofs.Shifts.{all_ended, all_ready, map_twice, of_mapped}
+
+pub length_mapped : {X Y : Type 0} (f : X → Y) (xs : List X) → length (map f xs) ≡ length xs
+length_mapped f [] = refl
+length_mapped f (x ∷ xs) = ap (λ n. suc n) (length_mapped f xs)
+
+-- of a list with another behind it, as many as it has are the list
+pub take_at : {X : Type 0} (xs ys : List X) (n : ℕ) → length xs ≡ n → take n (xs ++ ys) ≡ xs
+take_at [] ys zero same = refl
+take_at [] ys (suc n) same = absurd (omega (arith, same))
+take_at (x ∷ xs) ys zero same = absurd (omega (arith, same))
+take_at (x ∷ xs) ys (suc n) same = ap (λ l. x ∷ l) (take_at xs ys n (omega (arith, same)))
+
+module _ (lobby : Lock Setup) {D C V : Type 0} (ps : List Pass) (ws : List (Worker D C V)) (items : List (Shift D C V)) (same : length ps ≡ length ws) (made : items ≡ map (λ (p : Pass × Worker D C V). record { pass = p.0; worker = p.1 }) (zip ps ws)) where
+  passes : map (λ (x : Shift D C V). x.pass) items ≡ ps
+  passes = ap (λ l. map (λ (x : Shift D C V). x.pass) l) made ∙ firsts (λ (p : Pass × Worker D C V). record { pass = p.0; worker = p.1 }) (λ (x : Shift D C V). x.pass) (λ p w. refl) ps ws same
+
+  workers : map (λ (x : Shift D C V). x.worker) items ≡ ws
+  workers = ap (λ l. map (λ (x : Shift D C V). x.worker) l) made ∙ seconds (λ (p : Pass × Worker D C V). record { pass = p.0; worker = p.1 }) (λ (x : Shift D C V). x.worker) (λ p w. refl) ps ws same
+
+  pub as_many : length items ≡ length ws
+  as_many = sym (length_mapped (λ (x : Shift D C V). x.worker) items) ∙ ap (λ l. length l) workers
+
+  pub start_ready : All (IsReady lobby) ps → All (λ (x : Shift D C V). IsReady lobby x.pass) items
+  start_ready ready = of_mapped (IsReady lobby) (λ (x : Shift D C V). x.pass) items (subst (All (IsReady lobby)) (sym passes) ready)
+
+  pub have_solvers : All (λ (w : Worker D C V). 0 < vec_len w.solvers) ws → All (λ (x : Shift D C V). 0 < vec_len x.worker.solvers) items
+  have_solvers some = of_mapped (λ (w : Worker D C V). 0 < vec_len w.solvers) (λ (x : Shift D C V). x.worker) items (subst (All (λ (w : Worker D C V). 0 < vec_len w.solvers)) (sym workers) some)
+
+  module _ (moments : C → Option (List ℕ)) (news : List (Shift D C V)) (len : length news ≡ length items) (worked : (i : ℕ) (d : Shift D C V) → i < length items → HasWorked lobby (moments (slice_index_or items i d).worker.clock) (slice_index_or news i d).pass) where
+    pub end_ready : All (IsReady lobby) (map (λ (x : Shift D C V). x.pass) news)
+    end_ready = all_ready lobby (λ (x : Shift D C V). moments x.worker.clock) (λ (x : Shift D C V). x.pass) items news len worked
+
+    clocks : map (λ (x : Shift D C V). moments x.worker.clock) items ≡ map (λ (w : Worker D C V). moments w.clock) ws
+    clocks = sym (map_twice (λ (w : Worker D C V). moments w.clock) (λ (x : Shift D C V). x.worker) items) ∙ ap (λ l. map (λ (w : Worker D C V). moments w.clock) l) workers
+
+    pub evening : (es : List Entry) → IsLegal lobby.fixed es → All (λ (e : Entry). e.pass < lobby.passes) es → lobby.passes ≡ length ws
+        → All (λ (p : Pass). IsPrefix p.seen es) (map (λ (x : Shift D C V). x.pass) news) → IsEvening lobby.fixed (map (λ (w : Worker D C V). moments w.clock) ws) es
+    evening es legal numbers number begins = record {
+      legal = legal;
+      numbers = subst (λ n. All (λ (e : Entry). e.pass < n) es) (number ∙ sym (length_mapped (λ (w : Worker D C V). moments w.clock) ws)) numbers;
+      ended = subst (All (HasEnded lobby.fixed es)) clocks (all_ended lobby (λ (x : Shift D C V). moments x.worker.clock) (λ (x : Shift D C V). x.pass) es items news len worked begins);
+    }

@@ -1,0 +1,4 @@
+pub mod Loads
+pub mod Works
+pub mod Shifts
+pub mod Evenings

@@ -1,0 +1,88 @@
+#!/usr/bin/env python3
+"""refused_growths.py PROGRAM [WORD ..] [--first N] [--step N] [< INPUT]: runs a built program, or a built program of tests, with
+these words and this input once for each allocation that it makes, which is then refused.
+
+It prints how many allocations there are and how the whole run ends, then how many of the other runs ended in which way, and a line
+for each that wrote something and ended otherwise. The allocator of the C library is stood in for by LD_PRELOAD, so that the program
+itself is the one that was built."""
+
+import argparse
+import collections
+import os
+import subprocess
+import sys
+import tempfile
+
+SHIM = r"""
+#include <errno.h>
+#include <fcntl.h>
+#include <stdio.h>
+#include <stdlib.h>
+#include <sys/syscall.h>
+#include <unistd.h>
+static long nth = -1, count;
+extern void *__libc_malloc(size_t), *__libc_calloc(size_t, size_t), *__libc_realloc(void *, size_t), *__libc_memalign(size_t, size_t);
+static int fails(void) {
+  if (nth < 0) { const char *text = getenv("FAIL_NTH"); nth = text ? atol(text) : 0; }
+  if (++count != nth) return 0;
+  errno = ENOMEM;
+  return 1;
+}
+void *malloc(size_t n) { return fails() ? 0 : __libc_malloc(n); }
+void *calloc(size_t a, size_t b) { return fails() ? 0 : __libc_calloc(a, b); }
+void *realloc(void *p, size_t n) { return fails() ? 0 : __libc_realloc(p, n); }
+void *aligned_alloc(size_t a, size_t n) { return fails() ? 0 : __libc_memalign(a, n); }
+int posix_memalign(void **p, size_t a, size_t n) { return fails() || !(*p = __libc_memalign(a, n)) ? ENOMEM : 0; }
+void _exit(int status) {
+  const char *path = getenv("FAIL_TELL");
+  char text[24];
+  int file = path ? open(path, O_WRONLY | O_CREAT | O_TRUNC, 0600) : -1;
+  if (file >= 0) { write(file, text, snprintf(text, sizeof text, "%ld", count)); close(file); }
+  syscall(SYS_exit_group, status);
+  for (;;) {}
+}
+"""
+
+
+def run(words, given, shim, **named):
+    """The status and the output of one run."""
+    env = dict(os.environ, LD_PRELOAD=shim, **named)
+    done = subprocess.run(words, input=given, env=env, capture_output=True, timeout=120, check=False)
+    return done.returncode, done.stdout
+
+
+def tell(number, ended):
+    """Prints what a run wrote that had an allocation refused."""
+    print(f"allocation {number}: status {ended[0]}, {ended[1][-300:].decode(errors='replace')}")
+
+
+def main(words, first, step):
+    """Runs the program with nothing refused, and then with each allocation refused in turn."""
+    words[0] = os.path.abspath(words[0])
+    given = b"" if sys.stdin.isatty() else sys.stdin.buffer.read()
+    with tempfile.TemporaryDirectory() as folder:
+        shim, told = os.path.join(folder, "shim.so"), os.path.join(folder, "told")
+        compiler = ["cc", "-O2", "-shared", "-fPIC", "-w", "-x", "c", "-", "-o", shim]
+        subprocess.run(compiler, input=SHIM.encode(), check=True)
+        whole = run(words, given, shim, FAIL_TELL=told)
+        with open(told, encoding="ascii") as file:
+            count = int(file.read())
+        print(f"{count} allocations, status {whole[0]}, {len(whole[1])} bytes written")
+        ends = collections.Counter()
+        for number in range(first, count + 1, step):
+            ended = run(words, given, shim, FAIL_NTH=str(number))
+            wrote = "the same" if ended[1] == whole[1] else "something else" if ended[1] else "nothing"
+            ends[ended[0], wrote] += 1
+            if wrote == "something else":
+                tell(number, ended)
+    for (status, wrote), times in sorted(ends.items()):
+        print(f"{times} times status {status}, {wrote} written")
+
+
+if __name__ == "__main__":
+    options = argparse.ArgumentParser(description=__doc__, formatter_class=argparse.RawDescriptionHelpFormatter)
+    options.add_argument("words", nargs="+", metavar="WORD")
+    options.add_argument("--first", type=int, default=1)
+    options.add_argument("--step", type=int, default=1)
+    chosen = options.parse_args()
+    main(chosen.words, chosen.first, chosen.step)

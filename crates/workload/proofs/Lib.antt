@@ -1,0 +1,11 @@
+mod Acted
+mod Added
+mod Drafted
+pub mod Entered
+mod Finished
+mod Good
+mod Listed
+mod Onward
+mod Planned
+mod Played
+mod Rounded

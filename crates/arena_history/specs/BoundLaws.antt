@@ -22,7 +22,7 @@ use Rattle.arena_history.specs.Waves.{started, history}
 abbrev pub EnteredArePlayers : Setup → History → Type 0
 EnteredArePlayers s h = AllByRecursion (λ p. p < length s.players) (entered h)
 
--- in a game less has happened than entries came, and nothing later than the last of them
+-- in a game less has happened than entries came, and nothing later than the latest of them
 abbrev pub EventsAreEntries : Type 0
 EventsAreEntries = (s : Setup) (es : List Entry) (g : Begun) (t : ℕ)
     → IsGameOf s es g
@@ -33,7 +33,7 @@ EventsAreEntries = (s : Setup) (es : List Entry) (g : Begun) (t : ℕ)
 abbrev pub ResultsAreCounted : Type 0
 ResultsAreCounted = (s : Setup) (h : History) (p : ℕ) → length (results s h p) ≤ length (finished s h)
 
--- where players of a good setup entered, the table has no more rows than the setup has players
+-- where players of the setup entered, the table has no more rows than the setup has players
 abbrev pub RowsAreFew : Type 0
 RowsAreFew = (s : Setup) (h : History) → EnteredArePlayers s h → length (standings s h) ≤ length s.players
 

@@ -1,5 +1,5 @@
 -- Laws of the games of histories: which are begun, what happens in them, how they end, and which count.
-use Rattle.std.specs.Prelude.{◌≡◌, ℕ, ◌<◌, ◌≤◌, ◌+◌, ◌==◌, not, if◌then◌else◌, List, [], ◌∷◌, ◌++◌, length, map, filter, count_by, slice_get, Option, Some, None}
+use Rattle.std.specs.Prelude.{◌≡◌, ◌≢◌, ℕ, ◌<◌, ◌≤◌, ◌+◌, ◌==◌, not, if◌then◌else◌, List, [], ◌∷◌, ◌++◌, length, map, filter, count_by, slice_get, Option, Some, None}
 use Rattle.std.specs.List.{filter_map, AllByRecursion, AllPairs}
 use Rattle.std.specs.Option.{option_map, option_to_list}
 use Rattle.entries.specs.declared.action.Action.{Action}
@@ -7,7 +7,8 @@ use Rattle.entries.specs.declared.journal.Entry.{Entry}
 use Rattle.entries.specs.declared.journal.What.TheVariants as what
 use Rattle.entries.specs.declared.setup.Setup.{Setup}
 use Rattle.game_room.specs.declared.outcome.Outcome.{Outcome}
-use Rattle.game_room.specs.Events.{Event}
+use Rattle.game_room.specs.declared.header.Header.{Header}
+use Rattle.game_room.specs.Events.{Event, tick_at}
 use Rattle.game_room.specs.Games as room
 use Rattle.arena_history.specs.History.{History}
 use Rattle.arena_history.specs.Games.{Begun, games_from, begun, event_of, events, outcome_of, goes_on, running}
@@ -32,6 +33,13 @@ games_begun_by s es e = games_from s (es ++ e ∷ []) (length (history s es).sta
 abbrev pub GamesWithOneMore : Type 0
 GamesWithOneMore = (s : Setup) (es : List Entry) (e : Entry)
     → begun s (history s (es ++ e ∷ [])) ≡ begun s (history s es) ++ games_begun_by s es e
+
+-- what an entry is to a game asks neither for its pass nor for other games: an act in another game is nothing to it, and each look
+-- is an event
+pub record EventsAreItsOwn : Type 0 where
+  pub pass : (g : Header) (e : Entry) (q : ℕ) → event_of g (record e { pass = q }) ≡ event_of g e
+  pub another : (g : Header) (e : Entry) (p n : ℕ) (a : Action) → e.what ≡ what.Act p n a → n ≢ g.id → event_of g e ≡ None
+  pub look : (g : Header) (e : Entry) → e.what ≡ what.Tick → event_of g e ≡ Some (tick_at e.stamp)
 
 -- of a game that was begun, what has happened with one entry more is what had happened, and behind it what the entry is to it
 abbrev pub EventsWithOneMore : Type 0

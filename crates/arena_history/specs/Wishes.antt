@@ -47,7 +47,7 @@ wish_in p (Wave n) old = old
 abbrev pub wish_step : Setup → ℕ → History → Entry → Wish → Wish
 wish_step s p h e old = wish_freed (no_show s h e p) (wish_in p e.what old)
 
--- p's wish: what he last asked for, or to pause since he did not appear for a game; nothing before the first entry
+-- p's wish: what he last asked for, or to pause since he did not appear for a game; a leave stays; nothing before the first entry
 unfoldable pub wish : Setup → History → ℕ → Wish
 wish s h p = along (wish_step s p) wishes.Absent h
 

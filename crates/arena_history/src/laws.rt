@@ -1,6 +1,6 @@
 ghost use Rattle.arena_history.specs.HistoryLaws.{HasItsEntries, BeginningsAreHistories, HistoriesGrow};
 ghost use Rattle.arena_history.specs.HistoryLaws.{StartsOfBeginnings, LeftsOfBeginnings, StartsHaveEntries};
-ghost use Rattle.arena_history.specs.GameLaws.{GamesAreNumbered, GamesWithOneMore, EventsWithOneMore, NewGames, RunningWithOneMore, RunningGamesRun};
+ghost use Rattle.arena_history.specs.GameLaws.{GamesAreNumbered, GamesWithOneMore, EventsAreItsOwn, EventsWithOneMore, NewGames, RunningWithOneMore, RunningGamesRun};
 ghost use Rattle.arena_history.specs.GameLaws.{EndedGamesStay, EndedGames, EndedRunNoLonger, EndedByEvents, EndedByAct, EndedByLook, OnlyEventsEndGames};
 ghost use Rattle.arena_history.specs.GameLaws.{CountedWithOneMore, CountedOnce, CountedEnded, CountedStay, CountedAndRunning};
 ghost use Rattle.arena_history.specs.PlayerLaws.{WishWithOneMore, WishesByEntries, AtMostOneGame, RunningGamesArePlayed, PlayedGamesRun, GamesBeginForPlayers};
@@ -33,6 +33,7 @@ pub fn beginnings_are_histories()
 pub fn games_with_one_more()
     ensures numbered { GamesAreNumbered }
     ensures begun { GamesWithOneMore }
+    ensures own { EventsAreItsOwn }
     ensures events { EventsWithOneMore }
     ensures new_games { NewGames }
     ensures running { RunningWithOneMore }
@@ -136,7 +137,7 @@ pub fn candidates_with_one_more()
     ensures wave { LastWaveWithOneMore }
 {}
 
-/// What happens in a game is entries, and nothing happens in it later than the last of them.
+/// What happens in a game is entries, and nothing happens in it later than the latest of them.
 pub fn events_are_entries()
     ensures { EventsAreEntries }
 {}

@@ -1,9 +1,7 @@
 -- What an arena keeps of its games may be sent to another thread.
 use denote.Param.Send.{IsSend, sendable}
 use Rattle.std.proofs.Crossing.{crosses}
-use Rattle.board.specs.contracts.parts.Rights as rights
-use Rattle.draw_rules.specs.contracts.cell.Cell as cell
-use Rattle.draw_rules.specs.contracts.kept.Kept as appearance
+use Rattle.draw_rules.specs.contracts.packed.Packed as packed
 use Rattle.draw_rules.specs.contracts.past.Past as past
 use Rattle.entries.specs.contracts.setup.Control as control
 use Rattle.game_clock.specs.contracts.clock.GameClock as clock
@@ -15,19 +13,13 @@ use Rattle.arena_games.specs.contracts.games.Games as games
 use Rattle.arena_games.specs.contracts.kept.Kept as kept
 use Rattle.arena_games.specs.contracts.kept.State as state
 use Rattle.arena_games.specs.contracts.live.Live as live
-use Rattle.arena_lock.proofs.SentBoards.{a_square, a_position, a_move}
+use Rattle.arena_lock.proofs.SentBoards.{a_placement, a_position, a_move}
 
-a_cell : IsSend cell.the_row
-a_cell = search (sendable, crosses) depth 20
-
-the_rights : IsSend rights.the_field.row
-the_rights = search (sendable, crosses) depth 20
-
-an_appearance : IsSend appearance.the_field.row
-an_appearance = search (sendable, crosses, a_cell, the_rights, a_square) depth 20
+a_packed : IsSend packed.the_row
+a_packed = search (sendable, crosses) depth 20
 
 a_past : IsSend past.the_row
-a_past = search (sendable, crosses, an_appearance) depth 20
+a_past = search (sendable, crosses, a_placement, a_packed) depth 20
 
 the_control : IsSend control.the_field.row
 the_control = search (sendable, crosses) depth 20

@@ -20,13 +20,13 @@ EntrantsArePlayers = (s : Setup) (es : List Entry) → IsLegal s es → EnteredA
 abbrev pub TablesAreShort : Type 0
 TablesAreShort = (s : Setup) (es : List Entry) → IsLegal s es → length (standings s (history s es)) ≤ length s.players
 
--- each row is that of a player of the setup, with at most 1,000,000 points and a performance from -500 to 4,500
+-- over a good setup each row is that of a player of the setup, with at most 1,000,000 points and a performance from -500 to 4,500
 abbrev pub TablesAreInRange : Type 0
 TablesAreInRange = (s : Setup) (es : List Entry)
     → IsGood s
     → IsLegal s es
     → All (IsRowOf (length s.players)) (standings s (history s es))
 
--- the candidates of a snapshot are a ranking, as planning asks
+-- over a good setup the candidates of a snapshot are a ranking, as planning asks
 abbrev pub SnapshotsAreRankings : Type 0
 SnapshotsAreRankings = (s : Setup) (es : List Entry) → IsGood s → IsLegal s es → IsRanking (candidates s (history s es))

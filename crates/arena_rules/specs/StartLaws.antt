@@ -10,15 +10,15 @@ use Rattle.entries.specs.Ranges.{IsGood, AreStartsOf, IsWritable}
 use Rattle.arena_history.specs.Waves.{started, history}
 use Rattle.arena_rules.specs.Legal.{IsLegal}
 
--- at a legal list a wave of the plan of its first n entries starts at most 500 pairs
+-- at a legal list over a good setup a wave of the plan of its first n entries starts at most 500 pairs
 abbrev pub WavesStartFew : Type 0
 WavesStartFew = (s : Setup) (es : List Entry) (n : ℕ)
     → IsGood s
     → IsLegal s es
     → length (started s (history s es) n) ≤ 500
 
--- the games that a legal list begins are in range for a journal: in order, each of a wave's entry and between players of the
--- setup, and 1 to 500 for each wave
+-- the games that a legal list over a good setup begins are in range for a journal: in order, each of a wave's entry and between
+-- players of the setup, and 1 to 500 for each wave
 abbrev pub StartsAreInRange : Type 0
 StartsAreInRange = (s : Setup) (es : List Entry)
     → IsGood s
@@ -40,7 +40,7 @@ StartsAreOfWaves = (s : Setup) (es : List Entry) → All (IsOfWave es) (history 
 abbrev pub journal_of : Setup → List Entry → Journal
 journal_of s es = record { setup = s; version = 2; entries = es; starts = (history s es).starts }
 
--- a legal list by passes of numbers at most 255 can be written as a journal of version 2
+-- a legal list over a good setup by passes of numbers at most 255 can be written as a journal of version 2
 abbrev pub LegalIsWritable : Type 0
 LegalIsWritable = (s : Setup) (es : List Entry)
     → IsGood s

@@ -170,7 +170,7 @@ pub fn games_of_legal_lists()
     laws_of_games();
 }
 
-/// The table of a legal list has rows in range, and a snapshot's candidates are a ranking.
+/// The table of a legal list over a good setup has rows in range, and a snapshot's candidates are a ranking.
 pub fn tables_of_legal_lists()
     ensures entrants { EntrantsArePlayers }
     ensures short { TablesAreShort }

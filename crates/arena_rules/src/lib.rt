@@ -9,7 +9,7 @@
 //! The layers above rely on the laws: public functions that do nothing, whose contracts hold of every setup and every list
 //! of entries. Each entry that a command or a commit makes keeps a list legal exactly where nothing refuses it
 //! (`what_is_allowed`), each refusal comes exactly where it should (`why_refused`), and a look that is allowed ends a game
-//! (`looks_end_games`). Every legal list is in range (`legal_lists_in_range`), begins games that a journal of version 2 may list
+//! (`looks_end_games`). Every legal list over a good setup is in range (`legal_lists_in_range`), begins games that a journal of version 2 may list
 //! (`games_are_listed`), is fair (`legal_lists_are_fair`), and has games, rooms, tables and snapshots that the calls of the
 //! crates below may be handed (`games_of_legal_lists`, `tables_of_legal_lists`).
 #![tactic(auto)]

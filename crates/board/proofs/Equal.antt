@@ -85,7 +85,7 @@ unfolding same_board
 board_eq-is xs ys =
     same_from_decides _ _ (pointwise_decides cell_eq-decides xs ys) (pointwise_decides same_cell-decides xs ys)
 
-same_board-decides : (xs ys : List (Option Piece)) → Decides (same_board xs ys) (xs ≡ ys)
+pub same_board-decides : (xs ys : List (Option Piece)) → Decides (same_board xs ys) (xs ≡ ys)
 unfolding same_board
 same_board-decides xs ys = pointwise_decides same_cell-decides xs ys
 
@@ -98,7 +98,7 @@ same_bool-itself : (b : Bool) → same_bool b b ≡ true
 same_bool-itself true = refl
 same_bool-itself false = refl
 
-same_rights-true : (a b : Rights) → same_rights a b ≡ true → a ≡ b
+pub same_rights-true : (a b : Rights) → same_rights a b ≡ true → a ≡ b
 same_rights-true a b h =
     let three = and_parts (same_bool a.white_short b.white_short && same_bool a.white_long b.white_long && same_bool a.black_short b.black_short) (same_bool a.black_long b.black_long) h in
     let two = and_parts (same_bool a.white_short b.white_short && same_bool a.white_long b.white_long) (same_bool a.black_short b.black_short) three.0 in
@@ -109,11 +109,11 @@ same_rights-true a b h =
     let bl = same_bool-true a.black_long b.black_long three.1 in
     λ i. record { white_short = ws i; white_long = wl i; black_short = bs i; black_long = bl i }
 
-same_rights-itself : (r : Rights) → same_rights r r ≡ true
+pub same_rights-itself : (r : Rights) → same_rights r r ≡ true
 same_rights-itself r =
     rw (same_bool-itself r.white_short, same_bool-itself r.white_long, same_bool-itself r.black_short) (same_bool-itself r.black_long)
 
-same_ep-decides : (x y : Option ℕ) → Decides (same_ep x y) (x ≡ y)
+pub same_ep-decides : (x y : Option ℕ) → Decides (same_ep x y) (x ≡ y)
 same_ep-decides None None = (λ _. refl, λ _. refl)
 same_ep-decides None (Some y) = (λ h. cc, λ h. cc)
 same_ep-decides (Some x) None = (λ h. cc, λ h. cc)

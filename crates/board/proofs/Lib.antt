@@ -14,3 +14,7 @@ pub mod Spelling
 pub mod Splits
 pub mod Squares
 pub mod Stages
+pub mod SetLaws
+pub mod Kept
+pub mod SameBoards
+pub mod RangeTests

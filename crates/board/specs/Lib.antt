@@ -2,6 +2,12 @@ pub mod Square
 pub mod Piece
 pub mod Moves
 pub mod Attack
+pub mod Cells
+pub mod Sets
+pub mod Placement
+pub mod Pawns
+pub mod Castling
+pub mod Reach
 pub mod Start
 pub mod Position
 pub mod Same

@@ -7,6 +7,7 @@ use Rattle.board.specs.declared.piece.Kind.TheVariants.{Pawn, Rook, King}
 use Rattle.board.specs.declared.piece.Piece.{Piece}
 use Rattle.board.specs.declared.parts.Parts.{Parts}
 use Rattle.board.specs.declared.parts.Rights.{Rights}
+use Rattle.board.specs.declared.position.Status.{Status}
 use Rattle.board.specs.Square.{rank_of}
 use Rattle.board.specs.Piece.{other, is_piece}
 use Rattle.board.specs.Attack.{piece_on, king_attacked}
@@ -69,3 +70,7 @@ pub record IsPosition (p : Parts) : Type 0 where
 -- the same position with no en passant square
 abbrev pub without_ep : Parts → Parts
 without_ep p = record p { ep = None }
+
+-- the parts that a board and all else of a position make
+abbrev pub parts_of : List (Option Piece) → Status → Parts
+parts_of cells s = record { cells = cells; turn = s.turn; rights = s.rights; ep = s.ep; half = s.half; number = s.number }

@@ -1,4 +1,4 @@
--- What the private readers answer, case by case. No public contract cites these words: theirs are the words of writing.
+-- What the readers answer, case by case. Of these words public contracts cite `move_in` alone, beside the words of writing.
 use Rattle.std.specs.Prelude.{ℕ, ◌+◌, ◌-◌, ◌*◌, ◌==◌, zero, suc, nat_lt, nat_le, Bool, true, false, ◌&&◌, ◌||◌, List, [], ◌∷◌, ◌++◌, Option, None, Some, if◌then◌else◌, replicate, length}
 use Rattle.std.specs.List.{before_first, after_first}
 use Rattle.board.specs.declared.piece.Colour.{Colour}

@@ -2,10 +2,11 @@ ghost use Rattle.std.specs.Prelude.{◌≡◌, ◌↔◌, length, IsTrue};
 ghost use Rattle.board.specs.Square.{SomeSquare};
 ghost use Rattle.board.specs.Piece.{other, is_piece};
 ghost use Rattle.board.specs.Attack.{piece_on, strikes_from, attacked, king_attacked};
+ghost use Rattle.board.specs.Reach.{reaches};
 
-use crate::attack;
 use crate::piece::{Colour, Kind, Piece};
 use crate::square::Square;
+use crate::{attack, reach};
 
 /// The castlings that are left: king and rook have not moved, and the rook was not taken.
 #[derive(Clone, Copy, Debug, PartialEq, Eq)]
@@ -56,6 +57,15 @@ impl Parts {
         ensures means { IsTrue result ↔ SomeSquare (λ s. IsTrue (is_piece colour Kind.King (piece_on self.now.cells s)) × IsTrue (attacked self.now.cells s (other colour))) }
     {
         attack::is_king_attacked(&self.cells, colour)
+    }
+
+    /// Whether a piece of the side to move stands on `from` and goes to `to` by its way of moving: where it strikes and none of
+    /// its own side stands, a pawn ahead too, and a king by castling (FIDE Laws of Chess, Articles 3.1 to 3.8). What becomes
+    /// of the own king is another matter.
+    pub fn reaches(&self, from: Square, to: Square) -> bool
+        ensures { result ≡ reaches self.now from to }
+    {
+        reach::reaches(self, from, to)
     }
 
     /// Says to a caller that a board has 64 cells, and does nothing.

@@ -1,14 +1,17 @@
 ghost use Rattle.std.specs.Prelude.{◌≡◌, ◌↔◌, IsTrue};
 ghost use Rattle.board.specs.Same.{same_board, same_rights, same_ep, same, IsSame};
 
-use crate::parts::{Parts, Rights};
-use crate::piece::Piece;
+use crate::parts::Rights;
+use crate::placement::Placement;
 use crate::position::Position;
 use crate::square::Square;
 
-fn have_same_board(a: &[Option<Piece>; 64], b: &[Option<Piece>; 64]) -> bool
+/// Whether the same pieces stand on the same squares. It compares four numbers.
+pub fn same_placement(a: &Placement, b: &Placement) -> bool
     ensures { result ≡ same_board a.now b.now }
 {
+    a.keeps();
+    b.keeps();
     a == b
 }
 
@@ -25,13 +28,13 @@ fn are_same_ep(a: Option<Square>, b: Option<Square>) -> bool
 }
 
 #[tactic(auto, unfolding(crate::specs::Same::same))]
-fn are_same(a: &Parts, b: &Parts) -> bool
+fn are_same(a: &Position, b: &Position) -> bool
     ensures { result ≡ same a.now b.now }
 {
-    have_same_board(&a.cells, &b.cells)
-        && a.turn == b.turn
-        && are_same_rights(a.rights, b.rights)
-        && are_same_ep(a.ep, b.ep)
+    same_placement(&a.placement(), &b.placement())
+        && a.turn() == b.turn()
+        && are_same_rights(a.rights(), b.rights())
+        && are_same_ep(a.ep(), b.ep())
 }
 
 /// Whether two positions are the same: the same pieces on the same squares, the same side to move, and the same castlings
@@ -41,5 +44,5 @@ pub fn same_cells(a: &Position, b: &Position) -> bool
     ensures is { result ≡ same a.now b.now }
     ensures means { IsTrue result ↔ IsSame a.now b.now }
 {
-    are_same(a.as_parts(), b.as_parts())
+    are_same(a, b)
 }

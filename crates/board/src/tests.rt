@@ -147,17 +147,17 @@ fn pieces_strike_what_they_guard(rt: HostRuntime) {
         let s = Square::of(index);
         let struck = index < 24 && index != 0 && index != 7;
         assert_eq!(rt;
-            start.as_parts().attacked(s, Colour::White),
+            start.parts().attacked(s, Colour::White),
             struck,
             "square {index}"
         );
     }
-    assert!(rt; !start.as_parts().is_king_attacked(Colour::White));
+    assert!(rt; !start.parts().is_king_attacked(Colour::White));
 }
 
 /// A cell is a tag, a colour and a kind; a position is 64 cells and twelve bytes more.
 #[test]
 fn a_position_is_small(rt: HostRuntime) {
     assert_eq!(rt; size_of::<Option<Piece>>(), 3);
-    assert_eq!(rt; size_of::<Position>(), 204);
+    assert_eq!(rt; size_of::<Position>(), 48);
 }

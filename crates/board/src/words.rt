@@ -121,6 +121,7 @@ fn parse_move(bytes: &[u8]) -> Option<Move>
 
 /// The move of a word, or None where the bytes are no move word.
 pub fn read_move(bytes: &[u8]) -> Option<Move>
+    ensures is { result ≡ move_in bytes.now }
     ensures spelled { IfSome result (λ m. move_word m ≡ bytes.now) }
     ensures read { (m : MoveWord) → IsMove m → move_word m ≡ bytes.now → result ≡ Some m }
 {

@@ -2,14 +2,14 @@
 //!
 //! The layer above relies on three things. A `Past` is the list of the positions that were pushed since the half count was
 //! last 0, each without its counts. Its `count` says how many of them are the last one again, this one among them. It takes
-//! no memory but its own 11 KB. The other calls are exactly the definitions of `specs/Material.antt` and the bounds 100 and
+//! no memory but its own 5 KB. The other calls are exactly the definitions of `specs/Material.antt` and the bounds 100 and
 //! 150.
 #![tactic(auto)]
 
-mod cell;
 mod kept;
 mod laws;
 mod material;
+mod packed;
 mod past;
 mod quiet_moves;
 #[cfg(test)]

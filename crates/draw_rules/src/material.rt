@@ -1,91 +1,67 @@
-ghost use Rattle.std.specs.Prelude.{◌≡◌, ◌||◌, ◌<◌, count_by};
-ghost use Rattle.std.specs.List.{list_all};
-ghost use Rattle.draw_rules.specs.Material.{is_king_or_empty, is_bishop, is_minor, is_light, only_kings, kings_and_one_minor, is_king_or_bishop_on, kings_and_bishops_on, dead_material, is_bare_of, bare_king};
+ghost use Rattle.std.specs.Prelude.{◌≡◌, ◌||◌, not};
+ghost use Rattle.board.specs.Attack.{piece_on};
+ghost use Rattle.board.specs.Same.{same_bool};
+ghost use Rattle.board.specs.Sets.{IsSetOf};
+ghost use Rattle.draw_rules.specs.Material.{is_king_or_empty, is_minor, is_light, only_kings, kings_and_one_minor, kings_and_bishops_on, dead_material, bare_king};
 
-use board::{Colour, Kind, Parts, Piece, Position, Square};
+use board::{Colour, Kind, Placement, Position};
 
-fn is_king_or_empty(cell: Option<Piece>) -> bool
-    ensures { result ≡ is_king_or_empty cell }
+/// The light squares, as h1 is one.
+const LIGHT: u64 = 0x55aa_55aa_55aa_55aa;
+
+fn light_or_dark(light: bool) -> u64
+    ensures { IsSetOf result (λ s. same_bool (is_light s) light) }
 {
-    match cell {
-        None => true,
-        Some(piece) => piece.kind == Kind::King,
-    }
+    if light { LIGHT } else { !LIGHT }
 }
 
-fn is_bishop(cell: Option<Piece>) -> bool
-    ensures { result ≡ is_bishop cell }
+// The squares of all pieces but kings.
+fn no_kings(board: &Placement) -> u64
+    ensures { IsSetOf result (λ s. not (is_king_or_empty (piece_on board.now s))) }
 {
-    match cell {
-        None => false,
-        Some(piece) => piece.kind == Kind::Bishop,
-    }
+    board.occupied() & !board.of_kind(Kind::King)
 }
 
-fn is_minor(cell: Option<Piece>) -> bool
-    ensures { result ≡ is_minor cell }
+// The squares of knights and bishops.
+fn minors(board: &Placement) -> u64
+    ensures { IsSetOf result (λ s. is_minor (piece_on board.now s)) }
 {
-    match cell {
-        None => false,
-        Some(piece) => piece.kind == Kind::Knight || piece.kind == Kind::Bishop,
-    }
-}
-
-fn is_light(s: Square) -> bool
-    ensures { result ≡ is_light s }
-{
-    (s.file() + s.rank()) % 2 == 1
+    board.of_kind(Kind::Knight) | board.of_kind(Kind::Bishop)
 }
 
 #[tactic(auto, unfolding(crate::specs::Material::only_kings))]
-fn has_only_kings(p: &Parts) -> bool
-    ensures { result ≡ only_kings p.now.cells }
+fn has_only_kings(board: &Placement) -> bool
+    ensures { result ≡ only_kings board.now }
 {
-    p.cells.iter().all(|cell| is_king_or_empty(*cell))
-}
-
-fn has_only_minors(p: &Parts) -> bool
-    ensures { result ≡ list_all (λ cell. is_king_or_empty cell || is_minor cell) p.now.cells }
-{
-    p.cells
-        .iter()
-        .all(|cell| is_king_or_empty(*cell) || is_minor(*cell))
-}
-
-fn minors(p: &Parts) -> usize
-    ensures { result ≡ count_by is_minor p.now.cells }
-{
-    p.cells.iter().filter(|cell| is_minor(**cell)).count()
+    board.keeps();
+    no_kings(board) == 0
 }
 
 #[tactic(auto, unfolding(crate::specs::Material::kings_and_one_minor))]
-fn has_one_minor(p: &Parts) -> bool
-    ensures { result ≡ kings_and_one_minor p.now.cells }
+fn has_one_minor(board: &Placement) -> bool
+    ensures { result ≡ kings_and_one_minor board.now }
 {
-    has_only_minors(p) && minors(p) == 1
-}
-
-fn is_king_or_bishop_on(light: bool, p: &Parts, s: u8) -> bool
-    requires { s < 64 }
-    ensures { result ≡ is_king_or_bishop_on light p.now.cells s }
-{
-    let square = Square::of(s);
-    let cell = p.at(square);
-    is_king_or_empty(cell) || is_bishop(cell) && is_light(square) == light
+    board.keeps();
+    let minors = minors(board);
+    no_kings(board) & !minors == 0 && minors.count_ones() == 1
 }
 
 #[tactic(auto, unfolding(crate::specs::Material::kings_and_bishops_on))]
-fn has_bishops_on(light: bool, p: &Parts) -> bool
-    ensures { result ≡ kings_and_bishops_on light p.now.cells }
+fn has_bishops_on(light: bool, board: &Placement) -> bool
+    ensures { result ≡ kings_and_bishops_on light board.now }
 {
-    (0..64).all(|s| is_king_or_bishop_on(light, p, s))
+    let bishops = board.of_kind(Kind::Bishop) & light_or_dark(light);
+    no_kings(board) & !bishops == 0
 }
 
 #[tactic(auto, unfolding(crate::specs::Material::dead_material))]
-fn is_dead(p: &Parts) -> bool
-    ensures { result ≡ dead_material p.now.cells }
+fn is_dead(board: &Placement) -> bool
+    ensures { result ≡ dead_material board.now }
 {
-    has_only_kings(p) || has_one_minor(p) || has_bishops_on(true, p) || has_bishops_on(false, p)
+    has_only_kings(board)
+        || has_one_minor(board)
+        || has_bishops_on(true, board)
+        || has_bishops_on(false, board)
 }
 
 /// Whether nothing is left beside the kings but one knight, or one bishop, or bishops of which all stand on light squares or
@@ -94,28 +70,20 @@ fn is_dead(p: &Parts) -> bool
 pub fn dead_material(p: &Position) -> bool
     ensures { result ≡ dead_material p.now.cells }
 {
-    is_dead(p.as_parts())
-}
-
-fn is_bare_of(colour: Colour, cell: Option<Piece>) -> bool
-    ensures { result ≡ is_bare_of colour cell }
-{
-    match cell {
-        None => true,
-        Some(piece) => piece.colour != colour || piece.kind == Kind::King,
-    }
+    is_dead(&p.placement())
 }
 
 #[tactic(auto, unfolding(crate::specs::Material::bare_king))]
-fn has_bare_king(p: &Parts, colour: Colour) -> bool
-    ensures { result ≡ bare_king p.now.cells colour }
+fn has_bare_king(board: &Placement, colour: Colour) -> bool
+    ensures { result ≡ bare_king board.now colour }
 {
-    p.cells.iter().all(|cell| is_bare_of(colour, *cell))
+    board.keeps();
+    board.of_colour(colour) & !board.of_kind(Kind::King) == 0
 }
 
 /// Whether this colour has its king alone.
 pub fn bare_king(p: &Position, colour: Colour) -> bool
     ensures { result ≡ bare_king p.now.cells colour }
 {
-    has_bare_king(p.as_parts(), colour)
+    has_bare_king(&p.placement(), colour)
 }

@@ -186,5 +186,5 @@ fn a_position_has_occurred_where_all_but_its_counts_is_the_same(rt: HostRuntime)
 #[test]
 fn a_past_is_small(rt: HostRuntime) {
     positions_are_compared();
-    assert!(rt; size_of::<Past>() <= 10_736);
+    assert!(rt; size_of::<Past>() <= 5_152);
 }

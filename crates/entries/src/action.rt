@@ -17,7 +17,8 @@ pub enum Action {
     Decline,
     /// He claims a draw, by threefold repetition or by the fifty-move rule.
     Claim,
-    /// He gives half of his time away for a further point if he wins.
+    /// He plays on without increment, and with half of his time where it is long enough, for a further point if he wins a
+    /// game that is long enough.
     Berserk,
 }
 

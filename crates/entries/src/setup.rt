@@ -33,7 +33,7 @@ pub struct Setup {
     /// The millisecond from which no player enters or leaves, no wave starts games and no game that ends counts: above
     /// `starts`, at most 900,000,000.
     pub ends: u64,
-    /// How many milliseconds lie at least between two waves: 100 to 600,000.
+    /// How many milliseconds after a wave the next one is due: 100 to 600,000.
     pub wave_ms: u64,
     /// How many players of a team count for it: 1 to 20.
     pub leaders: u32,

@@ -7,13 +7,14 @@ use Rattle.board.specs.declared.parts.Parts.{Parts}
 use Rattle.board.specs.Moves.{MoveWord}
 use Rattle.board.specs.Start.{start_parts}
 use Rattle.board.specs.Same.{same}
-use Rattle.move_rules.specs.After.{next_count}
+use Rattle.move_rules.specs.After.{next_count, is_quiet}
 use Rattle.move_rules.specs.EnPassant.{canonical}
 use Rattle.draw_rules.specs.Appearance.{Appearance, appearance_of, same_appearance, times_in_if_some, occurrences}
 use Rattle.game_line.specs.Line.{position_after, line, IsLegalLine}
-use Rattle.game_line.specs.Quiet.{is_quiet, quiet, positions_before, positions_since}
+use Rattle.game_line.specs.Quiet.{quiet, positions_before, positions_since}
 use Rattle.game_line.specs.Repetition.{is_repetition, times}
 use Rattle.game_line.specs.Kept.{kept_as, kept}
+use Rattle.game_line.specs.Below.{LawsOfMoves}
 use Rattle.game_line.proofs.Lists.{last_or-drop, last_or-map, count_by-append, count_by-map, count_by-none, All-implies, All-last}
 use Rattle.game_line.proofs.Lines.{length-line, last_of_line}
 use Rattle.game_line.proofs.Quiets.{quiet-le-length, since_goes_on, since_begins_anew, line_in_two, half-push, half_is_quiet}
@@ -96,18 +97,18 @@ occurrences_since (p ∷ since) last h =
     ∙ count_by-map kept_as (λ a. same_appearance a (kept_as last)) (p ∷ since)
     ∙ ap (λ (f : Parts → Bool). count_by f (p ∷ since)) (λ i q. same_kept q last i)
 
-none_before : (ms : List MoveWord) → IsLegalLine ms → All (λ (p : Parts). is_repetition p (position_after ms) ≡ false) (positions_before ms)
-none_before ms legal =
+none_before : (known : LawsOfMoves) (ms : List MoveWord) → IsLegalLine ms → All (λ (p : Parts). is_repetition p (position_after ms) ≡ false) (positions_before ms)
+none_before known ms legal =
     All-implies (λ (p : Parts). All (λ (q : Parts). is_repetition p q ≡ false) (positions_since ms)) (λ (p : Parts). is_repetition p (position_after ms) ≡ false) (positions_before ms)
     (λ p h. All-last (λ (q : Parts). is_repetition p q ≡ false) (positions_since ms) (position_after ms) (last_since ms) h)
-    (none_before_is_repeated ms legal)
+    (none_before_is_repeated known ms legal)
 
-pub kept_are_enough : (ms : List MoveWord) → IsLegalLine ms → occurrences (kept ms) ≡ times ms
+pub kept_are_enough : (known : LawsOfMoves) (ms : List MoveWord) → IsLegalLine ms → occurrences (kept ms) ≡ times ms
 unfolding kept times
-kept_are_enough ms legal =
+kept_are_enough known ms legal =
     let repeats : Parts → Bool = λ p. is_repetition p (position_after ms) in
     occurrences_since (positions_since ms) (position_after ms) (last_since ms)
     ∙ sym (zero-add (count_by repeats (positions_since ms)))
-    ∙ ap (λ n. n + count_by repeats (positions_since ms)) (sym (count_by-none repeats (positions_before ms) (none_before ms legal)))
+    ∙ ap (λ n. n + count_by repeats (positions_since ms)) (sym (count_by-none repeats (positions_before ms) (none_before known ms legal)))
     ∙ sym (count_by-append repeats (positions_before ms) (positions_since ms))
     ∙ ap (count_by repeats) (line_in_two ms)

@@ -8,7 +8,7 @@ use Rattle.board.specs.Position.{IsPosition}
 use Rattle.board.specs.Start.{start_parts}
 use Rattle.board.proofs.Array.{start_is_position}
 use Rattle.move_rules.specs.After.{after}
-use Rattle.move_rules.proofs.PositionKept.{after_is_position}
+use Rattle.game_line.specs.Below.{LawsOfMoves}
 use Rattle.game_line.specs.Line.{Ply, after_ply, plies_from, plies, position_after, line_from, line, IsLegalPly, IsLegalLine}
 use Rattle.std.proofs.lemmas.List.Elements.{All-nil, All-cons, All-head}
 use Rattle.game_line.proofs.Lists.{snoc_induction, All-push, All-append_left, All-append_right}
@@ -117,18 +117,18 @@ starts_at_a_position : IsPosition (position_after [])
 unfolding position_after
 starts_at_a_position = start_is_position
 
-pub legal_position : (ms : List MoveWord) → IsLegalLine ms → IsPosition (position_after ms)
-legal_position ms legal =
+pub legal_position : (known : LawsOfMoves) (ms : List MoveWord) → IsLegalLine ms → IsPosition (position_after ms)
+legal_position known ms legal =
     legal_induction (λ (l : List MoveWord). IsPosition (position_after l))
     starts_at_a_position
-    (λ l m whole ply now. subst IsPosition (sym (position_after-push l m)) (after_is_position (position_after l) m now ply.word ply.legal))
+    (λ l m whole ply now. subst IsPosition (sym (position_after-push l m)) (known.positions (position_after l) m now ply.word ply.legal))
     ms legal
 
-pub legal_positions : (ms : List MoveWord) → IsLegalLine ms → All IsPosition (line ms)
-legal_positions ms legal =
+pub legal_positions : (known : LawsOfMoves) (ms : List MoveWord) → IsLegalLine ms → All IsPosition (line ms)
+legal_positions known ms legal =
     legal_induction (λ (l : List MoveWord). All IsPosition (line l))
     (subst (All IsPosition) (sym line-nil) (All-cons IsPosition start_parts [] start_is_position (All-nil IsPosition)))
     (λ l m whole ply now.
     subst (All IsPosition) (sym (line-push l m))
-    (All-push IsPosition (line l) (position_after (l ++ m ∷ [])) now (legal_position (l ++ m ∷ []) ((one_more_is_legal l m).1 (whole, ply)))))
+    (All-push IsPosition (line l) (position_after (l ++ m ∷ [])) now (legal_position known (l ++ m ∷ []) ((one_more_is_legal l m).1 (whole, ply)))))
     ms legal

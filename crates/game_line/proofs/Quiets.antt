@@ -5,10 +5,10 @@ use Rattle.std.proofs.lemmas.List.{length-append, drop-append-le, take-append-le
 use Rattle.std.proofs.lemmas.List.Sums.{suffix_len-le-length}
 use Rattle.board.specs.declared.parts.Parts.{Parts}
 use Rattle.board.specs.Moves.{MoveWord}
-use Rattle.move_rules.specs.Cells.{is_empty}
-use Rattle.move_rules.specs.After.{is_pawn_move, next_count, half_after}
+use Rattle.board.specs.Cells.{is_empty}
+use Rattle.move_rules.specs.After.{is_pawn_move, next_count, half_after, is_quiet}
 use Rattle.game_line.specs.Line.{Ply, plies, position_after, line}
-use Rattle.game_line.specs.Quiet.{is_quiet, quiet, positions_before, positions_since}
+use Rattle.game_line.specs.Quiet.{quiet, positions_before, positions_since}
 use Rattle.game_line.proofs.Lists.{snoc_induction, suffix_len-push, take_whole-append, drop_whole-append}
 use Rattle.game_line.proofs.Lines.{ply_after, plies-push, length-plies, position_after-push, line-push, length-line}
 

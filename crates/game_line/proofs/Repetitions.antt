@@ -6,12 +6,12 @@ use Rattle.board.specs.Square.{file_of}
 use Rattle.board.specs.Moves.{MoveWord}
 use Rattle.board.specs.Position.{without_ep}
 use Rattle.board.proofs.Equal.{same-means}
-use Rattle.move_rules.specs.Pawns.{is_ep}
+use Rattle.board.specs.Pawns.{is_ep}
 use Rattle.move_rules.specs.After.{is_pawn_move, is_en_passant}
 use Rattle.move_rules.specs.Legal.{legal}
 use Rattle.move_rules.specs.Lists.{SomeMove}
 use Rattle.move_rules.specs.EnPassant.{ep_legal, canonical}
-use Rattle.move_rules.proofs.PassingMoves.{ep_legal_means}
+use Rattle.game_line.specs.Below.{LawsOfMoves}
 use Rattle.game_line.specs.Repetition.{capture_square, IsRepetition, is_repetition}
 
 -- what dropping an unused en passant square leaves
@@ -85,15 +85,15 @@ capture_if : (used : Bool) (ep : Option ℕ) (s : ℕ) → (if used then ep else
 capture_if true ep s h = (refl, h)
 capture_if false ep s h = cc
 
-pub capture_square_means : (p : Parts) (s : ℕ) → (capture_square p ≡ Some s) ↔ SomeMove (λ m. IsTrue (is_en_passant p m) × IsTrue (legal p m) × (m.to ≡ s))
-capture_square_means p s = (
+pub capture_square_means : (known : LawsOfMoves) (p : Parts) (s : ℕ) → (capture_square p ≡ Some s) ↔ SomeMove (λ m. IsTrue (is_en_passant p m) × IsTrue (legal p m) × (m.to ≡ s))
+capture_square_means known p s = (
   λ h.
       let t = capture_if (ep_legal p) p.ep s h in
-      let m = (ep_legal_means p).0 t.0 in
+      let m = (known.en_passant p).0 t.0 in
       let on : ◌≡◌ {A = Option ℕ} (Some m.0.to) (Some s) = sym (captured_on p m.0 m.2.0) ∙ t.1 in
       let at : m.0.to ≡ s = cc in
       (m.0, m.1, (m.2.0, m.2.1, at)),
   λ t.
-      let used : ep_legal p ≡ true = (ep_legal_means p).1 (t.0, t.1, (t.2.0, t.2.1)) in
+      let used : ep_legal p ≡ true = (known.en_passant p).1 (t.0, t.1, (t.2.0, t.2.1)) in
       ap (λ b. if b then p.ep else None) used ∙ captured_on p t.0 t.2.0 ∙ ap Some t.2.2,
 )

@@ -1,48 +1,40 @@
 -- No later move takes a pawn move or a capture back.
-use Rattle.std.proofs.Common.{◌≡◌, ◌≢◌, ℕ, ◌<◌, ◌≤◌, List, [], ◌∷◌, ◌++◌, refl, sym, ap, ◌∙◌, subst, true, false, inl, inr, arith}
+use Rattle.std.proofs.Common.{◌≡◌, ◌≢◌, ◌<◌, ◌≤◌, List, [], ◌∷◌, ◌++◌, refl, sym, ap, ◌∙◌, subst, true, false, inl, inr, arith}
 use Rattle.std.specs.List.{All}
 use Rattle.std.proofs.lemmas.Bool.{cases_Bool}
 use Rattle.std.proofs.lemmas.List.Elements.{All-nil, All-cons, All-head, All-tail, All-append}
 use Rattle.board.specs.declared.parts.Parts.{Parts}
 use Rattle.board.specs.Moves.{MoveWord}
 use Rattle.board.specs.Position.{IsPosition}
-use Rattle.move_rules.specs.After.{after}
-use Rattle.move_rules.proofs.Legality.{Legal, legal_move}
-use Rattle.move_rules.proofs.PositionKept.{after_is_position}
+use Rattle.move_rules.specs.After.{after, is_quiet}
+use Rattle.move_rules.specs.Weight.{weigh, weight_of}
+use Rattle.game_line.specs.Below.{LawsOfMoves}
 use Rattle.board.specs.Start.{start_parts}
 use Rattle.game_line.specs.Line.{plies, plies_from, position_after, line_from, line, IsLegalPly, IsLegalLine}
-use Rattle.game_line.specs.Quiet.{is_quiet, quiet, positions_before, positions_since}
+use Rattle.game_line.specs.Quiet.{quiet, positions_before, positions_since}
 use Rattle.game_line.specs.Repetition.{is_repetition}
 use Rattle.game_line.proofs.Lists.{All-push, All-implies}
 use Rattle.game_line.proofs.Lines.{ply_after, position_after-nil, position_after-push, legal_induction, legal_beginning, legal_rest, legal_position}
 use Rattle.game_line.proofs.Quiets.{since_goes_on, since_begins_anew, before_stays, before_is_all, line_in_two}
-use Rattle.game_line.proofs.Weights.{weigh, weight_falls, weight_stays}
 use Rattle.game_line.proofs.Repetitions.{other_board}
 
--- the weight of a position's board
-abbrev pub weight_of : Parts → ℕ
-weight_of p = weigh 0 p.cells
-
-legal_ply : (p : Parts) (m : MoveWord) → IsPosition p → IsLegalPly (record { before = p; move = m }) → Legal p m
-legal_ply p m position ply = legal_move p m position ply.word ply.legal
-
 -- no move makes the board heavier
-never_heavier : (p : Parts) (m : MoveWord) → Legal p m → weight_of (after p m) ≤ weight_of p
-never_heavier p m l =
+never_heavier : (known : LawsOfMoves) (p : Parts) (m : MoveWord) → IsPosition p → IsLegalPly (record { before = p; move = m }) → weight_of (after p m) ≤ weight_of p
+never_heavier known p m position ply =
     elim (cases_Bool (is_quiet p m)) [
-      | inl quiet ↦ let same = weight_stays p m l quiet in omega arith
-      | inr final ↦ let less = weight_falls p m l final in omega arith
+      | inl quiet ↦ let same : weight_of (after p m) ≡ weight_of p = known.quiet p m position ply.word ply.legal quiet in omega arith
+      | inr final ↦ let less : weight_of (after p m) < weight_of p = known.others p m position ply.word ply.legal final in omega arith
     ]
 
 -- along legal moves no board is heavier than the first
-first_is_heaviest : (p : Parts) (ms : List MoveWord) → IsPosition p → All IsLegalPly (plies_from p ms) → All (λ (q : Parts). weight_of q ≤ weight_of p) (line_from p ms)
+first_is_heaviest : (known : LawsOfMoves) (p : Parts) (ms : List MoveWord) → IsPosition p → All IsLegalPly (plies_from p ms) → All (λ (q : Parts). weight_of q ≤ weight_of p) (line_from p ms)
 unfolding line_from
-first_is_heaviest p [] position legal = All-cons (λ (q : Parts). weight_of q ≤ weight_of p) p [] (omega arith) (All-nil _)
-first_is_heaviest p (m ∷ ms) position legal =
+first_is_heaviest known p [] position legal = All-cons (λ (q : Parts). weight_of q ≤ weight_of p) p [] (omega arith) (All-nil _)
+first_is_heaviest known p (m ∷ ms) position legal =
     let ply = All-head IsLegalPly (record { before = p; move = m }) (plies_from (after p m) ms) legal in
     let rest = All-tail IsLegalPly (record { before = p; move = m }) (plies_from (after p m) ms) legal in
-    let next = first_is_heaviest (after p m) ms (after_is_position p m position ply.word ply.legal) rest in
-    let step : weight_of (after p m) ≤ weight_of p = never_heavier p m (legal_ply p m position ply) in
+    let next = first_is_heaviest known (after p m) ms (known.positions p m position ply.word ply.legal) rest in
+    let step : weight_of (after p m) ≤ weight_of p = never_heavier known p m position ply in
     All-cons (λ (q : Parts). weight_of q ≤ weight_of p) p (line_from (after p m) ms) (omega arith)
     (All-implies (λ (q : Parts). weight_of q ≤ weight_of (after p m)) (λ (q : Parts). weight_of q ≤ weight_of p) (line_from (after p m) ms) (λ q h. omega arith) next)
 
@@ -96,22 +88,22 @@ weighed_anew ms m final less now =
 weight_after : (ms : List MoveWord) (m : MoveWord) → weight_of (position_after (ms ++ m ∷ [])) ≡ weight_of (after (position_after ms) m)
 weight_after ms m = ap weight_of (position_after-push ms m)
 
-weighed_step : (ms : List MoveWord) (m : MoveWord) → Legal (position_after ms) m → Weighed ms → Weighed (ms ++ m ∷ [])
-weighed_step ms m l now =
+weighed_step : (known : LawsOfMoves) (ms : List MoveWord) (m : MoveWord) → IsPosition (position_after ms) → IsLegalPly (ply_after ms m) → Weighed ms → Weighed (ms ++ m ∷ [])
+weighed_step known ms m position ply now =
     elim (cases_Bool (is_quiet (position_after ms) m)) [
-      | inl quiet ↦ weighed_quiet ms m quiet (weight_after ms m ∙ weight_stays (position_after ms) m l quiet) now
-      | inr final ↦ weighed_anew ms m final (let same = weight_after ms m in let less = weight_falls (position_after ms) m l final in omega arith) now
+      | inl quiet ↦ weighed_quiet ms m quiet (weight_after ms m ∙ known.quiet (position_after ms) m position ply.word ply.legal quiet) now
+      | inr final ↦ weighed_anew ms m final (let same = weight_after ms m in let less : weight_of (after (position_after ms) m) < weight_of (position_after ms) = known.others (position_after ms) m position ply.word ply.legal final in omega arith) now
     ]
 
-pub weighed : (ms : List MoveWord) → IsLegalLine ms → Weighed ms
-weighed ms legal =
+pub weighed : (known : LawsOfMoves) (ms : List MoveWord) → IsLegalLine ms → Weighed ms
+weighed known ms legal =
     legal_induction Weighed weighed_start
-    (λ l m whole ply now. weighed_step l m (legal_ply (position_after l) m (legal_position l whole) ply) now) ms legal
+    (λ l m whole ply now. weighed_step known l m (legal_position known l whole) ply now) ms legal
 
 -- so nothing before repeats anything since
-pub none_before_is_repeated : (ms : List MoveWord) → IsLegalLine ms → All (λ (p : Parts). All (λ (q : Parts). is_repetition p q ≡ false) (positions_since ms)) (positions_before ms)
-none_before_is_repeated ms legal =
-    let w = weighed ms legal in
+pub none_before_is_repeated : (known : LawsOfMoves) (ms : List MoveWord) → IsLegalLine ms → All (λ (p : Parts). All (λ (q : Parts). is_repetition p q ≡ false) (positions_since ms)) (positions_before ms)
+none_before_is_repeated known ms legal =
+    let w = weighed known ms legal in
     All-implies (λ (p : Parts). weight_of (position_after ms) < weight_of p) (λ (p : Parts). All (λ (q : Parts). is_repetition p q ≡ false) (positions_since ms)) (positions_before ms)
     (λ p heavier.
     All-implies (λ (q : Parts). weight_of q ≡ weight_of (position_after ms)) (λ (q : Parts). is_repetition p q ≡ false) (positions_since ms)
@@ -119,26 +111,26 @@ none_before_is_repeated ms legal =
     w.before
 
 -- the last board of a line is the lightest
-last_is_lightest : (ms : List MoveWord) → IsLegalLine ms → All (λ (p : Parts). weight_of (position_after ms) ≤ weight_of p) (line ms)
-last_is_lightest ms legal =
-    let w = weighed ms legal in
+last_is_lightest : (known : LawsOfMoves) (ms : List MoveWord) → IsLegalLine ms → All (λ (p : Parts). weight_of (position_after ms) ≤ weight_of p) (line ms)
+last_is_lightest known ms legal =
+    let w = weighed known ms legal in
     let NoLighter : Parts → Type 0 = λ p. weight_of (position_after ms) ≤ weight_of p in
     subst (All NoLighter) (line_in_two ms)
     (All-append NoLighter (positions_before ms) (positions_since ms)
     (All-implies (λ (p : Parts). weight_of (position_after ms) < weight_of p) NoLighter (positions_before ms) (λ p h. omega arith) w.before)
     (All-implies (λ (q : Parts). weight_of q ≡ weight_of (position_after ms)) NoLighter (positions_since ms) (λ q h. omega arith) w.since))
 
-pub nothing_is_undone : (ms : List MoveWord) (m : MoveWord) (ns : List MoveWord) → IsLegalLine (ms ++ m ∷ ns) → is_quiet (position_after ms) m ≡ false → All (λ (p : Parts). All (λ (q : Parts). p.cells ≢ q.cells) (line_from (after (position_after ms) m) ns)) (line ms)
-nothing_is_undone ms m ns legal final =
+pub nothing_is_undone : (known : LawsOfMoves) (ms : List MoveWord) (m : MoveWord) (ns : List MoveWord) → IsLegalLine (ms ++ m ∷ ns) → is_quiet (position_after ms) m ≡ false → All (λ (p : Parts). All (λ (q : Parts). p.cells ≢ q.cells) (line_from (after (position_after ms) m) ns)) (line ms)
+nothing_is_undone known ms m ns legal final =
     let whole = legal_beginning ms (m ∷ ns) legal in
     let at = position_after ms in
-    let position = legal_position ms whole in
+    let position = legal_position known ms whole in
     let rest = legal_rest ms (m ∷ ns) legal in
     let ply = All-head IsLegalPly (ply_after ms m) (plies_from (after at m) ns) rest in
-    let later = first_is_heaviest (after at m) ns (after_is_position at m position ply.word ply.legal) (All-tail IsLegalPly (ply_after ms m) (plies_from (after at m) ns) rest) in
-    let less : weight_of (after at m) < weight_of at = weight_falls at m (legal_ply at m position ply) final in
+    let later = first_is_heaviest known (after at m) ns (known.positions at m position ply.word ply.legal) (All-tail IsLegalPly (ply_after ms m) (plies_from (after at m) ns) rest) in
+    let less : weight_of (after at m) < weight_of at = known.others at m position ply.word ply.legal final in
     All-implies (λ (p : Parts). weight_of at ≤ weight_of p) (λ (p : Parts). All (λ (q : Parts). p.cells ≢ q.cells) (line_from (after at m) ns)) (line ms)
     (λ p no_lighter.
     All-implies (λ (q : Parts). weight_of q ≤ weight_of (after at m)) (λ (q : Parts). p.cells ≢ q.cells) (line_from (after at m) ns)
     (λ q no_heavier e. let equal : weight_of p ≡ weight_of q = ap (weigh 0) e in omega arith) later)
-    (last_is_lightest ms whole)
+    (last_is_lightest known ms whole)

@@ -5,14 +5,14 @@ use Rattle.board.specs.declared.parts.Parts.{Parts}
 use Rattle.board.specs.Moves.{MoveWord}
 use Rattle.board.specs.Position.{IsPosition}
 use Rattle.board.specs.Start.{start_parts}
-use Rattle.move_rules.specs.After.{after, is_en_passant}
+use Rattle.move_rules.specs.After.{after, is_en_passant, is_quiet}
 use Rattle.move_rules.specs.Legal.{legal}
 use Rattle.move_rules.specs.Lists.{SomeMove}
 use Rattle.move_rules.specs.EnPassant.{canonical}
 use Rattle.draw_rules.specs.Appearance.{appearance_of, occurrences}
 use Rattle.game_line.specs.Line.{position_after, line_from, line, IsLegalPly, IsLegalLine}
 use Rattle.game_line.specs.Repetition.{capture_square, IsRepetition, is_repetition, times}
-use Rattle.game_line.specs.Quiet.{is_quiet, quiet, positions_before, positions_since}
+use Rattle.game_line.specs.Quiet.{quiet, positions_before, positions_since}
 use Rattle.game_line.specs.Kept.{kept_as, kept}
 
 -- with no moves there is the start alone, and nothing that is not legal

@@ -3,3 +3,4 @@ pub mod Repetition
 pub mod Quiet
 pub mod Kept
 pub mod Laws
+pub mod Below

@@ -1,15 +1,10 @@
 -- Quiet moves, with which no pawn moves and nothing is captured, and the last move that is none.
-use Rattle.std.specs.Prelude.{ℕ, ◌-◌, Bool, ◌&&◌, not, List, length, take, drop}
+use Rattle.std.specs.Prelude.{ℕ, ◌-◌, List, length, take, drop}
 use Rattle.std.specs.List.{suffix_len}
 use Rattle.board.specs.declared.parts.Parts.{Parts}
 use Rattle.board.specs.Moves.{MoveWord}
-use Rattle.move_rules.specs.Cells.{is_empty}
-use Rattle.move_rules.specs.After.{is_pawn_move}
+use Rattle.move_rules.specs.After.{is_quiet}
 use Rattle.game_line.specs.Line.{Ply, plies, line}
-
--- the move is quiet
-abbrev pub is_quiet : Parts → MoveWord → Bool
-is_quiet p m = not (is_pawn_move p m) && is_empty p.cells m.to
 
 -- the number of quiet moves at the end of the line
 unfoldable pub quiet : List MoveWord → ℕ

@@ -1,3 +1,4 @@
+ghost use Rattle.game_line.specs.Below.{LawsOfMoves};
 ghost use Rattle.game_line.specs.Laws.{BeginsAtTheStart, OneMoreMove, OneMorePosition};
 ghost use Rattle.game_line.specs.Laws.{EndsWithThePosition, LineLength};
 ghost use Rattle.game_line.specs.Laws.{OneMoreIsLegal, BeginningsAreLegal, LegalLinesKeepPositions};
@@ -9,6 +10,16 @@ ghost use Rattle.game_line.specs.Laws.{KeptAreEnough, KeptAtTheStart, OneMoreKep
 ghost use Rattle.game_line.specs.Laws.{OneMoreKeptByHalfCount, KeptLength};
 ghost use Rattle.game_line.specs.Laws.{KeptLengthByHalfCount, HalfCountIsKeptLength};
 
+use move_rules::{en_passant_is_by_a_move, moves_lead_to_positions};
+
+/// The laws of the moves, which those of lines rest on.
+fn laws_of_moves()
+    ensures { LawsOfMoves }
+{
+    moves_lead_to_positions();
+    en_passant_is_by_a_move();
+}
+
 /// The positions of a line, move by move, and which lines are legal.
 pub fn lines_of_moves()
     ensures begins { BeginsAtTheStart }
@@ -19,7 +30,9 @@ pub fn lines_of_moves()
     ensures one_more_is_legal { OneMoreIsLegal }
     ensures beginnings { BeginningsAreLegal }
     ensures positions { LegalLinesKeepPositions }
-{}
+{
+    laws_of_moves();
+}
 
 /// The half count of a position, as it is kept move by move, is the number of quiet moves at the end of the line: moves of
 /// no pawn that capture nothing (FIDE Laws of Chess, Articles 9.3 and 9.6.2).
@@ -33,7 +46,9 @@ pub fn half_counts_are_quiet()
 pub fn nothing_is_undone()
     ensures boards { NothingIsUndone }
     ensures repetitions { NoneBeforeIsRepeated }
-{}
+{
+    laws_of_moves();
+}
 
 /// What a repetition is (FIDE Laws of Chess, Article 9.2.2 and 9.2.3), and that a lost castling or another en passant capture
 /// makes a position another one.
@@ -43,12 +58,16 @@ pub fn what_is_repeated()
     ensures itself { EachRepeatsItself }
     ensures right { LostRightIsAnother }
     ensures other_capture { OtherCaptureIsAnother }
-{}
+{
+    laws_of_moves();
+}
 
 /// The positions from the last pawn move or capture on tell how often the last one has occurred in the whole line.
 pub fn repetitions_are_kept()
     ensures { KeptAreEnough }
-{}
+{
+    laws_of_moves();
+}
 
 /// What is kept of a line, move by move, as `Past::push` keeps it.
 pub fn kept_positions()

@@ -5,17 +5,18 @@ use Rattle.board.specs.declared.piece.Colour.{Colour}
 use Rattle.board.specs.declared.piece.Colour.TheVariants.{White, Black}
 use Rattle.board.specs.declared.parts.Parts.{Parts}
 use Rattle.board.specs.Moves.{MoveWord, IsMove}
-use Rattle.move_rules.specs.After.{after}
+use Rattle.move_rules.specs.After.{after, is_quiet}
 use Rattle.move_rules.specs.Legal.{legal}
 use Rattle.move_rules.specs.EnPassant.{canonical}
 use Rattle.draw_rules.specs.Appearance.{occurrences}
 use Rattle.game_line.specs.Line.{position_after, IsLegalLine}
 use Rattle.game_line.specs.Repetition.{times}
-use Rattle.game_line.specs.Quiet.{is_quiet, quiet}
+use Rattle.game_line.specs.Quiet.{quiet}
 use Rattle.game_line.specs.Kept.{kept}
 use Rattle.game_line.proofs.Lines.{position_after-push, one_more_is_legal}
 use Rattle.game_line.proofs.Quiets.{quiet-push, half_is_quiet as line_half_is_quiet}
-use Rattle.game_line.proofs.KeptPositions.{one_more_kept_by_half_count, kept_are_enough}
+use Rattle.game_line.proofs.KeptPositions.{one_more_kept_by_half_count}
+use Rattle.game_line.specs.Laws.{KeptAreEnough}
 use Rattle.entries.specs.declared.action.Action.{Action}
 use Rattle.entries.specs.declared.action.Action.TheVariants as action
 use Rattle.game_clock.specs.ClockEvents.{MovedAt, BerserkedBy, has_moved}
@@ -85,17 +86,17 @@ half_is_quiet ms m lt =
     line_half_is_quiet (ms ++ m ∷ []) ∙ omega arith
 
 -- a side has made a legal move in time
-moved_room : (k : Held) (h : Header) (g : Game) (side : Colour) (m : MoveWord) (t : ℕ) → IsRoomOf k h g → IsMove m → IsTrue (legal k.position m)
+moved_room : (enough : KeptAreEnough) (k : Held) (h : Header) (g : Game) (side : Colour) (m : MoveWord) (t : ℕ) → IsRoomOf k h g → IsMove m → IsTrue (legal k.position m)
     → is_due k.clocks t ≡ false → k.position.half < 150 → IsRoomOf (room_moved k side m t) h (moved g side m t)
 unfolding standing_of moved room_moved
-moved_room k h g side m t r word ok in_time lt =
+moved_room enough k h g side m t r word ok in_time lt =
     let s = r.standing in
     let ms : List MoveWord = g.moves ++ m ∷ [] in
     let position : k.position ≡ position_after g.moves = ap (λ (x : Standing). x.position) s in
     let next : after k.position m ≡ position_after ms = ap (λ p. after p m) position ∙ sym (position_after-push g.moves m) in
     let past : past_with k.past (canonical (after k.position m)) ≡ kept ms = (λ i. past_with (r.past i) (canonical (next i))) ∙ sym (one_more_kept_by_half_count g.moves m) in
     let line : IsLegalLine ms = (one_more_is_legal g.moves m).1 (r.legal, record { word = word; legal = subst (λ p. IsTrue (legal p m)) position ok }) in
-    let count : occurrences (past_with k.past (canonical (after k.position m))) ≡ times ms = ap occurrences past ∙ kept_are_enough ms line in
+    let count : occurrences (past_with k.past (canonical (after k.position m))) ≡ times ms = ap occurrences past ∙ enough ms line in
     let quiet_now : quiet g.moves < 150 = subst (λ n. n < 150) (ap (λ (x : Standing). x.quiet) s) lt in
     let half : (after k.position m).half ≡ quiet ms = ap (λ (p : Parts). p.half) next ∙ half_is_quiet g.moves m quiet_now in
     let clock : k.clocks ≡ clocks h.control h.start g.clock = ap (λ (x : Standing). x.clocks) s in
@@ -129,15 +130,15 @@ berserk_room k h g side r accepted =
     record { header = r.header; standing = λ i. record (r.standing i) { clocks = told i }; past = r.past; legal = r.legal }
 
 -- a side has done what it may do
-pub action_room : (k : Held) (h : Header) (g : Game) (side : Colour) (a : Action) (t : ℕ) → IsRoomOf k h g → own_refusal (standing_in k) side a ≡ None
+pub action_room : (enough : KeptAreEnough) (k : Held) (h : Header) (g : Game) (side : Colour) (a : Action) (t : ℕ) → IsRoomOf k h g → own_refusal (standing_in k) side a ≡ None
     → IsAction a → is_due k.clocks t ≡ false → k.position.half < 150 → IsRoomOf (room_after_action k side a t) h (after_action h g side a t)
 unfolding standing_of
-action_room k h g side (action.Move m) t r accepted word in_time lt =
-    let after_it = moved_room k h g side m t r word (move_is_legal (standing_in k) side m accepted) in_time lt in
+action_room enough k h g side (action.Move m) t r accepted word in_time lt =
+    let after_it = moved_room enough k h g side m t r word (move_is_legal (standing_in k) side m accepted) in_time lt in
     settled_room (room_moved k side m t) h (moved g side m t) (room_ending (room_moved k side m t) side) (ending_of (moved g side m t) side) t after_it (λ i. ending_after_move (after_it.standing i).position (after_it.standing i).times (after_it.standing i).quiet side)
-action_room k h g side action.Resign t r accepted word in_time lt = settled_room k h g _ _ t r refl
-action_room k h g side action.Offer t r accepted word in_time lt = offered_room k h g side r
-action_room k h g side action.Accept t r accepted word in_time lt = settled_room k h g _ _ t r refl
-action_room k h g side action.Decline t r accepted word in_time lt = declined_room k h g r
-action_room k h g side action.Claim t r accepted word in_time lt = settled_room k h g _ _ t r (λ i. claim_ending (claim_cause (r.standing i).times (r.standing i).quiet))
-action_room k h g side action.Berserk t r accepted word in_time lt = berserk_room k h g side r accepted
+action_room enough k h g side action.Resign t r accepted word in_time lt = settled_room k h g _ _ t r refl
+action_room enough k h g side action.Offer t r accepted word in_time lt = offered_room k h g side r
+action_room enough k h g side action.Accept t r accepted word in_time lt = settled_room k h g _ _ t r refl
+action_room enough k h g side action.Decline t r accepted word in_time lt = declined_room k h g r
+action_room enough k h g side action.Claim t r accepted word in_time lt = settled_room k h g _ _ t r (λ i. claim_ending (claim_cause (r.standing i).times (r.standing i).quiet))
+action_room enough k h g side action.Berserk t r accepted word in_time lt = berserk_room k h g side r accepted

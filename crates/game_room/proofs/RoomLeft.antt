@@ -8,7 +8,7 @@ use Rattle.board.specs.Position.{without_ep}
 use Rattle.move_rules.specs.declared.standing.State.{State}
 use Rattle.move_rules.specs.declared.standing.State.TheVariants.{Going, Mate, Stalemate}
 use Rattle.move_rules.specs.Standing.{state_of}
-use Rattle.move_rules.specs.Cells.{is_empty}
+use Rattle.board.specs.Cells.{is_empty}
 use Rattle.move_rules.specs.After.{after, half_after, next_count, is_pawn_move}
 use Rattle.move_rules.specs.EnPassant.{ep_legal, canonical}
 use Rattle.draw_rules.specs.Material.{dead_material}

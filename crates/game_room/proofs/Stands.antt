@@ -11,7 +11,8 @@ use Rattle.game_line.specs.Repetition.{times}
 use Rattle.game_line.specs.Kept.{kept}
 use Rattle.game_line.proofs.Lines.{position_after-nil, no_moves_are_legal}
 use Rattle.game_line.proofs.Quiets.{quiet-none}
-use Rattle.game_line.proofs.KeptPositions.{kept_at_the_start, kept_are_enough}
+use Rattle.game_line.proofs.KeptPositions.{kept_at_the_start}
+use Rattle.game_line.specs.Laws.{KeptAreEnough}
 use Rattle.entries.specs.declared.action.Action.{Action}
 use Rattle.game_clock.specs.Clocks.{Clocks, clocks, is_due}
 use Rattle.game_room.specs.declared.header.Header.{Header}
@@ -56,11 +57,11 @@ unfolding standing_of
 same_outcome k h g r = sym (ap (λ (s : Standing). s.outcome) r.standing)
 
 -- after an accepted action a room stands for the events with it
-pub act_stands : (k : Held) (h : Header) (events : List Event) (side : Colour) (a : Action) (t : ℕ)
+pub act_stands : (enough : KeptAreEnough) (k : Held) (h : Header) (events : List Event) (side : Colour) (a : Action) (t : ℕ)
     → StandsFor k h events → refusal (standing_in k) side a t ≡ None → IsAction a → (k.outcome ≡ None → k.position.half < 150)
     → StandsFor (room_after_act k side a t) h (events ++ act_of side a t ∷ [])
 unfolding room_after_act
-act_stands k h events side a t r accepted word room =
+act_stands enough k h events side a t r accepted word room =
     let g : Game = game h events in
     let going : k.outcome ≡ None = goes_on_unless_refused (standing_in k) side a t accepted in
     let game_goes : g.outcome ≡ None = same_outcome k h g r ∙ going in
@@ -74,7 +75,7 @@ act_stands k h events side a t r accepted word room =
           moved_along _ _ h _ _
           (λ i. cond (due i) (room_after_due k t) (room_after_action k side a t))
           (game-push h events (act_of side a t) ∙ after_event-act h g side a t game_goes (clock ∙ due) (ap (λ s. own_refusal s side a) (sym r.standing) ∙ own))
-          (action_room k h g side a t r own word due (room going)))
+          (action_room enough k h g side a t r own word due (room going)))
     ]
 
 tick_by : (k : Held) (h : Header) (events : List Event) (t : ℕ) (o : Option Outcome) → k.outcome ≡ o → StandsFor k h events
@@ -125,11 +126,11 @@ pub new_is : (h : Header) (p : Parts) (past : List Appearance) (c : Clocks) → 
 new_is h p past c start kept_first = λ i. record (room_new h c) { position = start i; past = kept_first i }
 
 -- a new room stands for no events
-pub new_stands : (h : Header) (c : Clocks) → c ≡ clocks h.control h.start [] → StandsFor (room_new h c) h []
+pub new_stands : (enough : KeptAreEnough) (h : Header) (c : Clocks) → c ≡ clocks h.control h.start [] → StandsFor (room_new h c) h []
 unfolding game standing_of
-new_stands h c clock =
+new_stands enough h c clock =
     let past : appearance_of (canonical start_parts) ∷ [] ≡ kept [] = sym kept_at_the_start in
-    let count : occurrences (appearance_of (canonical start_parts) ∷ []) ≡ times [] = ap occurrences past ∙ kept_are_enough [] no_moves_are_legal in
+    let count : occurrences (appearance_of (canonical start_parts) ∷ []) ≡ times [] = ap occurrences past ∙ enough [] no_moves_are_legal in
     record {
       header = refl;
       standing = λ i. record {

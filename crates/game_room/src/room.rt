@@ -18,6 +18,7 @@ use changes::{end_due, perform};
 use draw_rules::Past;
 use entries::Action;
 use game_clock::GameClock;
+use game_line::repetitions_are_kept;
 use move_rules::canonical;
 use refusals::refusal;
 use std::marker::Model;
@@ -56,6 +57,7 @@ impl Room {
         requires stamped { h.start ≤ max_stamp }
         ensures { StandsFor result h [] }
     {
+        repetitions_are_kept();
         let position = Position::start();
         let past = Past::new(&canonical(&position));
         let clock = GameClock::new(&h.control, h.start);
@@ -115,6 +117,7 @@ impl Room {
     {
         self.has_room();
         a.keeps();
+        repetitions_are_kept();
         match refusal(self, who, &a, t) {
             Some(refusal) => Err(refusal),
             None => Ok(self.accept(who, &a, t)),

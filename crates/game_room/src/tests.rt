@@ -326,7 +326,7 @@ fn a_room_is_small_and_can_be_shared(rt: HostRuntime) {
         panic!(rt; "a control out of range");
     };
     can_be_shared(&room);
-    assert!(rt; size_of::<Room>() <= 11_104);
+    assert!(rt; size_of::<Room>() <= 8_192);
 }
 
 /// How many of the moves of a game in which the knights go out and back three times are accepted.

@@ -36,7 +36,7 @@ unfoldable pub total_from : List Candidate → Frame → ℕ → List ℕ → �
 total_from rows f i [] = 0
 total_from rows f i (j ∷ to) = share rows f i j + total_from rows f (i + 1) to
 
--- the first list is before the second in alphabetical order
+-- the first list is before the second in lexicographic order
 unfoldable pub comes_before : List ℕ → List ℕ → Bool
 comes_before [] [] = false
 comes_before [] (y ∷ ys) = true

@@ -25,7 +25,7 @@ is_partner rows f to i =
 unfoldable pub is_partner_list : List Candidate → Frame → List ℕ → Bool
 is_partner_list rows f to = length to == length rows && list_all (is_partner rows f to) (range_with_len 0 (length rows))
 
--- all lists of n numbers that are at most 14, in alphabetical order
+-- all lists of n numbers that are at most 14, in lexicographic order
 unfoldable pub words : ℕ → List (List ℕ)
 words zero = [] ∷ []
 words (suc n) = flat_map (λ j. map (λ word. j ∷ word) (words n)) (range_with_len 0 15)

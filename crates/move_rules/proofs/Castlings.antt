@@ -5,9 +5,9 @@ use Rattle.board.specs.declared.piece.Colour.{Colour}
 use Rattle.board.specs.declared.piece.Colour.TheVariants.{White, Black}
 use Rattle.board.specs.declared.parts.Parts.{Parts}
 use Rattle.board.specs.Position.{home}
-use Rattle.move_rules.specs.Cells.{is_empty}
-use Rattle.move_rules.specs.Castling.{short_right, long_right, all_empty, all_safe, castles_short, castles_long}
-use Rattle.move_rules.proofs.RangeTests.{all_at}
+use Rattle.board.specs.Cells.{is_empty}
+use Rattle.board.specs.Castling.{short_right, long_right, all_empty, all_safe, castles_short, castles_long}
+use Rattle.board.proofs.RangeTests.{all_at}
 
 -- the king goes from his home on a to b, which is empty, and crosses another empty square
 pub record KingCastles (p : Parts) (a b arrival crossed : ℕ) : Type 0 where

@@ -14,8 +14,8 @@ use Rattle.board.specs.Piece.{other, same_colour, same_kind, is_piece}
 use Rattle.board.specs.Attack.{piece_on}
 use Rattle.board.specs.Position.{home}
 use Rattle.board.proofs.Equal.{same_kind-true}
-use Rattle.move_rules.specs.Cells.{is_kind}
-use Rattle.move_rules.specs.Pawns.{last_rank}
+use Rattle.board.specs.Cells.{is_kind}
+use Rattle.board.specs.Pawns.{last_rank}
 use Rattle.move_rules.specs.After.{promoted_cell, arriving_cell, moved_cells, rook_moved_cells, castled_cells, cells_after, passed_pawn, is_en_passant, is_castling}
 use Rattle.move_rules.specs.Legal.{names_promo}
 use Rattle.move_rules.proofs.Reached.{goes_elsewhere, no_piece_of, piece_is_one}

@@ -7,8 +7,8 @@ use Rattle.board.specs.declared.parts.Parts.{Parts}
 use Rattle.board.specs.Moves.{MoveWord, IsMove}
 use Rattle.board.specs.Attack.{piece_on, king_attacked}
 use Rattle.board.specs.Position.{IsPosition}
-use Rattle.move_rules.specs.Cells.{is_kind}
-use Rattle.move_rules.specs.Reach.{reaches, kind_reaches}
+use Rattle.board.specs.Cells.{is_kind}
+use Rattle.board.specs.Reach.{reaches, kind_reaches}
 use Rattle.move_rules.specs.After.{arriving_cell, moved_cells, cells_after}
 use Rattle.move_rules.specs.Legal.{names_promo, leaves_king_safe, legal}
 use Rattle.move_rules.proofs.Reached.{Reach, reach_of, kind_of}
@@ -31,6 +31,9 @@ pub legal_move : (p : Parts) (m : MoveWord) → IsPosition p → IsMove m → le
 legal_move p m position word h =
     let t = legal_parts p m h in
     record { position = position; word = word; reach = reach_of p m.from m.to t.0; promo = t.1 }
+
+pub legal_reaches : (p : Parts) (m : MoveWord) → legal p m ≡ true → reaches p m.from m.to ≡ true
+legal_reaches p m h = (legal_parts p m h).0
 
 pub king_safe : (p : Parts) (m : MoveWord) → legal p m ≡ true → king_attacked (cells_after p m) p.turn ≡ false
 king_safe p m h = (legal_parts p m h).2

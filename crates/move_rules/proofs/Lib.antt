@@ -1,4 +1,3 @@
-pub mod RangeTests
 pub mod Reached
 pub mod Castlings
 pub mod Strikes
@@ -9,7 +8,9 @@ pub mod PawnRanks
 pub mod RightsKept
 pub mod PassedSquare
 pub mod PositionKept
+pub mod Exposed
 pub mod MoveLists
 pub mod MoveOrder
 pub mod PassingMoves
 pub mod Standings
+pub mod Weights

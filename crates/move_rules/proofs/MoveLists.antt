@@ -1,11 +1,9 @@
 -- The lists of moves, square by square.
-use Rattle.std.proofs.Common.{◌≡◌, ℕ, ◌+◌, List, [], ◌∷◌, ◌++◌, refl, arith, ap, sym, ◌∙◌, append-nil, append_assoc, subst, Bool, true, false, ◌&&◌, Option, None, Some, filter}
-use Rattle.std.proofs.lemmas.List.{map-id}
-use Rattle.std.proofs.lemmas.List.FromFn.{map-range_with_len_more}
+use Rattle.std.proofs.Common.{◌≡◌, ℕ, ◌+◌, List, [], ◌∷◌, ◌++◌, refl, arith, ap, sym, ◌∙◌, ◌<◌, ◌≤◌, zero, suc, inl, inr, append-nil, append_assoc, Bool, true, false, ◌&&◌, Option, None, Some, filter}
 use Rattle.std.proofs.lemmas.List.Elements.{filter-append}
-use Rattle.std.proofs.lemmas.List.Concat.{flat_map-append, flat_map-cons}
+use Rattle.std.proofs.lemmas.List.Concat.{flat_map-cons}
 use Rattle.std.proofs.lemmas.List.Folds.{list_any-append}
-use Rattle.std.proofs.lemmas.Bool.{false_from_ne_true}
+use Rattle.std.proofs.lemmas.Bool.{false_from_ne_true, cases_Bool, and_left, and_right}
 use Rattle.std.specs.List.{range_with_len, flat_map, list_any}
 use Rattle.board.specs.declared.piece.Kind.{Kind}
 use Rattle.board.specs.declared.piece.Kind.TheVariants.{Knight, Bishop, Rook, Queen}
@@ -13,9 +11,13 @@ use Rattle.board.specs.declared.piece.Piece.{Piece}
 use Rattle.board.specs.declared.parts.Parts.{Parts}
 use Rattle.board.specs.Moves.{MoveWord}
 use Rattle.board.specs.Attack.{piece_on}
-use Rattle.move_rules.specs.Cells.{is_of}
-use Rattle.move_rules.specs.Reach.{reaches, cell_reaches}
-use Rattle.move_rules.specs.Legal.{names_promo, leaves_king_safe, legal}
+use Rattle.board.specs.Cells.{is_of}
+use Rattle.board.specs.Sets.{has, IsSetOf}
+use Rattle.board.proofs.RangeTests.{any_same}
+use Rattle.bitboards.specs.Squares.{squares_in}
+use Rattle.bitboards.proofs.Strikers.{any_filtered, nothing_in}
+use Rattle.board.specs.Reach.{reaches, cell_reaches}
+use Rattle.move_rules.specs.Legal.{is_promotion, names_promo, leaves_king_safe, legal}
 use Rattle.move_rules.specs.Lists.{move_of, moves_between, moves_from, all_moves, legal_moves, has_legal_move, squares}
 
 -- where a piece goes, promotion and king decide
@@ -68,35 +70,64 @@ pub none_from : (p : Parts) (a : ℕ) → is_of p.turn (piece_on p.cells a) ≡ 
 unfolding moves_from
 none_from p a h = filter-flat_map_none (legal p) (moves_between a) (λ b. none_between p a b (unreached_from p a b h)) squares
 
-range_more : (n : ℕ) → range_with_len 0 (n + 1) ≡ range_with_len 0 n ++ n ∷ []
-range_more n = sym (map-id _) ∙ map-range_with_len_more (λ x. x) 0 n n (omega arith) ∙ ap (λ xs. xs ++ n ∷ []) (map-id _)
+filtered_first : {A : Type 0} (f : A → Bool) (g : ℕ → List A) (x : ℕ) (xs : List ℕ) → filter f (flat_map g (x ∷ xs)) ≡ filter f (g x) ++ filter f (flat_map g xs)
+filtered_first f g x xs = rw flat_map-cons (filter-append f (g x) (flat_map g xs))
 
-flat_map-more : (f : ℕ → List MoveWord) (n : ℕ) → flat_map f (range_with_len 0 (n + 1)) ≡ flat_map f (range_with_len 0 n) ++ f n
-flat_map-more f n = rw range_more (flat_map-append f _ _ ∙ ap (λ xs. flat_map f (range_with_len 0 n) ++ xs) (append-nil (f n)))
+-- squares that add nothing may be left out
+unlisted : {A : Type 0} (f : A → Bool) (g : ℕ → List A) (p : ℕ → Bool) (a n : ℕ) → ((x : ℕ) → a ≤ x → x < a + n → p x ≡ false → filter f (g x) ≡ []) → filter f (flat_map g (filter p (range_with_len a n))) ≡ filter f (flat_map g (range_with_len a n))
+unlisted f g p a zero none = refl
+unlisted f g p a (suc n) none =
+    let xs = range_with_len (a + 1) n in
+    let rest = unlisted f g p (a + 1) n (λ x low high. none x (omega arith) (omega arith)) in
+    elim (cases_Bool (p a)) [
+      | inl kept ↦ rw kept (filtered_first f g a (filter p xs) ∙ ap (λ zs. filter f (g a) ++ zs) rest ∙ sym (filtered_first f g a xs))
+      | inr gone ↦ rw gone (rest ∙ sym (filtered_first f g a xs ∙ ap (λ zs. zs ++ filter f (flat_map g xs)) (none a (omega arith) (omega arith) gone)))
+    ]
 
--- the legal moves among those of the first n squares
-unfoldable pub legal_of_first : Parts → (ℕ → List MoveWord) → ℕ → List MoveWord
-legal_of_first p f n = filter (legal p) (flat_map f (range_with_len 0 n))
+-- the legal moves among those from the squares of a set
+unfoldable pub legal_among : Parts → (ℕ → List MoveWord) → List ℕ → List MoveWord
+legal_among p f xs = filter (legal p) (flat_map f xs)
 
-pub first_none : (p : Parts) (f : ℕ → List MoveWord) (xs : List MoveWord) → xs ≡ xs ++ legal_of_first p f 0
-unfolding legal_of_first
-first_none p f xs = sym (append-nil xs)
+pub among_first : (p : Parts) (f : ℕ → List MoveWord) (x : ℕ) (xs ys : List ℕ) → ys ≡ x ∷ xs → legal_among p f ys ≡ filter (legal p) (f x) ++ legal_among p f xs
+unfolding legal_among
+among_first p f x xs ys e = ap (λ zs. filter (legal p) (flat_map f zs)) e ∙ rw flat_map-cons (filter-append (legal p) (f x) (flat_map f xs))
 
-first_more : (p : Parts) (f : ℕ → List MoveWord) (n : ℕ) → legal_of_first p f (n + 1) ≡ legal_of_first p f n ++ filter (legal p) (f n)
-unfolding legal_of_first
-first_more p f n = rw flat_map-more (filter-append (legal p) _ _)
+-- one square more is listed
+pub listed_more : (p : Parts) (f : ℕ → List MoveWord) (x : ℕ) (xs ys : List ℕ) (before after whole : List MoveWord) → ys ≡ x ∷ xs → before ++ legal_among p f ys ≡ whole → after ≡ before ++ filter (legal p) (f x) → after ++ legal_among p f xs ≡ whole
+listed_more p f x xs ys before after whole first so_far step =
+    ap (λ ms. ms ++ legal_among p f xs) step
+    ∙ append_assoc before (filter (legal p) (f x)) (legal_among p f xs)
+    ∙ ap (λ ms. before ++ ms) (sym (among_first p f x xs ys first))
+    ∙ so_far
 
--- one more square, behind what was there
-pub first_step : (p : Parts) (f : ℕ → List MoveWord) (n k : ℕ) (xs ys zs : List MoveWord) → k ≡ n → ys ≡ xs ++ legal_of_first p f n → zs ≡ ys ++ filter (legal p) (f k) → zs ≡ xs ++ legal_of_first p f (n + 1)
-first_step p f n k xs ys zs same before step = rw (step, before, same, first_more p f n) (append_assoc xs (legal_of_first p f n) (filter (legal p) (f n)))
+-- none is left
+pub listed_all : (p : Parts) (f : ℕ → List MoveWord) (set : ℕ) (ms whole : List MoveWord) → set ≡ 0 → ms ++ legal_among p f (squares_in set) ≡ whole → ms ≡ whole
+unfolding legal_among
+listed_all p f set ms whole none h =
+    sym (append-nil ms) ∙ ap (λ xs. ms ++ filter (legal p) (flat_map f xs)) (sym (ap squares_in none ∙ nothing_in)) ∙ h
 
-pub first_from : (p : Parts) (a n : ℕ) (xs ys : List MoveWord) → n ≡ 64 → ys ≡ xs ++ legal_of_first p (moves_between a) n → ys ≡ xs ++ filter (legal p) (moves_from a)
-unfolding legal_of_first moves_from
-first_from p a n xs ys all h = subst (λ (k : ℕ). ys ≡ xs ++ filter (legal p) (flat_map (moves_between a) (range_with_len 0 k))) all h
+-- what is listed from the targets of a square is listed from all squares
+pub targets_listed : (p : Parts) (a set : ℕ) → IsSetOf set (reaches p a) → legal_among p (moves_between a) (squares_in set) ≡ filter (legal p) (moves_from a)
+unfolding legal_among moves_from squares_in
+targets_listed p a set is = unlisted (legal p) (moves_between a) (has set) 0 64 (λ b low on gone. none_between p a b (sym (is b on) ∙ gone))
 
-pub first_all : (p : Parts) (n : ℕ) (ys : List MoveWord) → n ≡ 64 → ys ≡ [] ++ legal_of_first p moves_from n → ys ≡ legal_moves p
-unfolding legal_of_first all_moves
-first_all p n ys all h = subst (λ (k : ℕ). ys ≡ filter (legal p) (flat_map moves_from (range_with_len 0 k))) all h
+pub own_listed : (p : Parts) (set : ℕ) → IsSetOf set (λ s. is_of p.turn (piece_on p.cells s)) → legal_among p moves_from (squares_in set) ≡ legal_moves p
+unfolding legal_among all_moves squares_in
+own_listed p set is = unlisted (legal p) moves_from (has set) 0 64 (λ a low on gone. none_from p a (sym (is a on) ∙ gone))
+
+-- where nothing is promoted, only the move that names nothing can be legal, and the king decides
+pub legal_where_plain : (p : Parts) (m : MoveWord) → reaches p m.from m.to ≡ true → is_promotion p m ≡ false → m.promo ≡ None → legal p m ≡ leaves_king_safe p m
+unfolding legal names_promo
+legal_where_plain p m h plain none = rw (h, plain, none) refl
+
+named_illegal : (p : Parts) (a b : ℕ) (k : Kind) → is_promotion p (move_of a b None) ≡ false → legal p (move_of a b (Some k)) ≡ false
+unfolding legal names_promo
+named_illegal p a b k plain = rw plain (and_left _ _ (and_right (reaches p a b) false refl))
+
+pub plain_between : (p : Parts) (a b : ℕ) → is_promotion p (move_of a b None) ≡ false → filter (legal p) (moves_between a b) ≡ filter (legal p) (move_of a b None ∷ [])
+plain_between p a b plain =
+    let no = λ (k : Kind). drops_illegal p (move_of a b (Some k)) (named_illegal p a b k plain) in
+    between_parts p a b ∙ rw (no Queen, no Rook, no Bishop, no Knight) (append-nil _ ∙ append-nil _ ∙ append-nil _ ∙ append-nil _)
 
 -- a test of the items of lists one after another
 any_of_lists : {A : Type 0} (f : A → Bool) (g : ℕ → List A) (xs : List ℕ) → list_any f (flat_map g xs) ≡ list_any (λ x. list_any f (g x)) xs
@@ -117,10 +148,30 @@ any_between_none p a b h = any_unless_listed (legal p) (moves_between a b) (none
 pub any_from_none : (p : Parts) (a : ℕ) → is_of p.turn (piece_on p.cells a) ≡ false → list_any (legal p) (moves_from a) ≡ false
 any_from_none p a h = any_unless_listed (legal p) (moves_from a) (none_from p a h)
 
-pub any_from : (p : Parts) (a : ℕ) → list_any (legal p) (moves_from a) ≡ list_any (λ b. list_any (legal p) (moves_between a b)) (range_with_len 0 64)
-unfolding moves_from
-any_from p a = any_of_lists (legal p) (moves_between a) (range_with_len 0 64)
+-- some move from the targets of a square, or from the squares of the own pieces
+pub any_left_out : (g : ℕ → Bool) (p : ℕ → Bool) → ((x : ℕ) → x < 64 → p x ≡ false → g x ≡ false) → list_any g (filter p (range_with_len 0 64)) ≡ list_any g (range_with_len 0 64)
+any_left_out g p none =
+    any_filtered p g (range_with_len 0 64)
+    ∙ any_same (λ s. p s && g s) g 0 64 (λ x low on. elim (cases_Bool (p x)) [
+      | inl kept ↦ rw kept refl
+      | inr gone ↦ rw gone (sym (none x on gone))
+    ])
 
-pub any_of_all : (p : Parts) → has_legal_move p ≡ list_any (λ a. list_any (legal p) (moves_from a)) (range_with_len 0 64)
-unfolding has_legal_move all_moves
-any_of_all p = any_of_lists (legal p) moves_from (range_with_len 0 64)
+pub any_from : (p : Parts) (a set : ℕ) → IsSetOf set (reaches p a) → list_any (λ b. list_any (legal p) (moves_between a b)) (squares_in set) ≡ list_any (legal p) (moves_from a)
+unfolding moves_from squares_in
+any_from p a set is =
+    any_left_out (λ b. list_any (legal p) (moves_between a b)) (has set) (λ b on gone. any_between_none p a b (sym (is b on) ∙ gone))
+    ∙ sym (any_of_lists (legal p) (moves_between a) (range_with_len 0 64))
+
+pub any_of_all : (p : Parts) (set : ℕ) → IsSetOf set (λ s. is_of p.turn (piece_on p.cells s)) → list_any (λ a. list_any (legal p) (moves_from a)) (squares_in set) ≡ has_legal_move p
+unfolding has_legal_move all_moves squares_in
+any_of_all p set is =
+    any_left_out (λ a. list_any (legal p) (moves_from a)) (has set) (λ a on gone. any_from_none p a (sym (is a on) ∙ gone))
+    ∙ sym (any_of_lists (legal p) moves_from (range_with_len 0 64))
+
+-- one square that passes settles it, one that misses may go
+pub any_first : (g : ℕ → Bool) (x : ℕ) (xs ys : List ℕ) → ys ≡ x ∷ xs → g x ≡ false → list_any g xs ≡ list_any g ys
+any_first g x xs ys e missed = sym (ap (list_any g) e ∙ rw missed refl)
+
+pub any_over : (g : ℕ → Bool) (set : ℕ) → set ≡ 0 → false ≡ list_any g (squares_in set)
+any_over g set none = sym (ap (λ n. list_any g (squares_in n)) none ∙ ap (list_any g) nothing_in)

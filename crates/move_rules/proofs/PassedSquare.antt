@@ -14,8 +14,8 @@ use Rattle.board.specs.Piece.{other, is_piece}
 use Rattle.board.specs.Attack.{piece_on, pawn_strike}
 use Rattle.board.specs.Position.{ep_holds}
 use Rattle.board.proofs.Equal.{same_colour-itself}
-use Rattle.move_rules.specs.Cells.{is_of, is_kind, is_empty}
-use Rattle.move_rules.specs.Pawns.{ahead, pawn_rank, last_rank, halfway, is_ep, single_step, double_step, pawn_capture, pawn_reaches}
+use Rattle.board.specs.Cells.{is_of, is_kind, is_empty}
+use Rattle.board.specs.Pawns.{ahead, pawn_rank, last_rank, halfway, is_ep, single_step, double_step, pawn_capture, pawn_reaches}
 use Rattle.move_rules.specs.After.{promoted_cell, arriving_cell, moved_cells, cells_after, is_pawn_move, is_en_passant, is_castling, ep_after}
 use Rattle.move_rules.specs.Legal.{names_promo}
 use Rattle.move_rules.proofs.Reached.{goes_elsewhere, kind_of}
@@ -95,7 +95,7 @@ unpromoted : (d : Colour) (cell : Option Piece) (promo : Option Kind) (last : Bo
 unpromoted d cell None last e h = refl
 unpromoted d cell (Some k) last e h = let n : (if is_kind Pawn cell && last then true else false) ≡ true = h in absurd (both_ways _ (and_right (is_kind Pawn cell) last e) (none_promoted _ n))
 
-plain_move : (p : Parts) (m : MoveWord) → is_en_passant p m ≡ false → is_castling p m ≡ false → cells_after p m ≡ moved_cells p m
+pub plain_move : (p : Parts) (m : MoveWord) → is_en_passant p m ≡ false → is_castling p m ≡ false → cells_after p m ≡ moved_cells p m
 unfolding cells_after
 plain_move p m no_pass no_castle = rw (no_pass, no_castle)
 

@@ -1,24 +1,34 @@
 -- The legal en passant captures are the ones that go to the en passant square and promote to nothing.
-use Rattle.std.proofs.Common.{◌≡◌, ◌↔◌, ℕ, ◌+◌, ◌<◌, refl, arith, sym, subst, length, get_or, ◌==◌, Bool, true, false, ◌&&◌, not, Option, None, Some, is_none}
+use Rattle.std.proofs.Common.{◌≡◌, ◌↔◌, ℕ, ◌+◌, ◌<◌, refl, arith, sym, subst, ◌∙◌, length, get_or, ◌==◌, Bool, true, false, ◌&&◌, not, Option, None, Some, is_none}
 use Rattle.std.specs.List.{list_any, range_with_len}
-use Rattle.std.proofs.lemmas.Bool.{and_parts, and_from, and_right, eqb-true, eq-eqb, false_from_ne_true}
+use Rattle.std.proofs.lemmas.Bool.{and_parts, and_from, and_right, eqb-true, eq-eqb, false_from_ne_true, both_ways, not-true}
 use Rattle.std.proofs.lemmas.List.Folds.{Any-from_list_any}
 use Rattle.std.proofs.lemmas.List.FromFn.{length-range_with_len, get_or-range_with_len}
 use Rattle.board.specs.declared.piece.Colour.{Colour}
 use Rattle.board.specs.declared.piece.Colour.TheVariants.{White, Black}
+use Rattle.board.specs.declared.piece.Kind.{Kind}
+use Rattle.board.specs.declared.piece.Kind.TheVariants.{Pawn}
 use Rattle.board.specs.declared.parts.Parts.{Parts}
 use Rattle.board.specs.Square.{file_of, rank_of}
 use Rattle.board.specs.Moves.{MoveWord, IsMove}
 use Rattle.board.specs.Position.{IsPosition}
-use Rattle.move_rules.specs.Pawns.{is_ep, last_rank}
+use Rattle.board.specs.Piece.{other}
+use Rattle.board.specs.Attack.{piece_on, pawn_strike}
+use Rattle.board.specs.Pawns.{is_ep, last_rank, pawn_reaches}
+use Rattle.board.specs.Reach.{kind_reaches}
+use Rattle.board.specs.Sets.{has, IsSetOf}
+use Rattle.bitboards.specs.Squares.{squares_in}
+use Rattle.bitboards.proofs.Tabled.{pawn_turned}
 use Rattle.move_rules.specs.After.{is_pawn_move, is_en_passant}
 use Rattle.move_rules.specs.Legal.{names_promo, is_promotion, legal}
 use Rattle.move_rules.specs.Lists.{SomeMove, move_of, all_moves}
 use Rattle.move_rules.specs.EnPassant.{is_legal_en_passant, ep_legal}
-use Rattle.move_rules.proofs.RangeTests.{any_at}
+use Rattle.board.proofs.RangeTests.{any_at}
 use Rattle.move_rules.proofs.MoveOrder.{some_move}
-use Rattle.move_rules.proofs.Legality.{legal_move}
-use Rattle.move_rules.proofs.SpecialMoves.{passing, ep_rank, ep_tells}
+use Rattle.move_rules.proofs.MoveLists.{any_left_out}
+use Rattle.move_rules.proofs.Reached.{reach_of, kind_of}
+use Rattle.move_rules.proofs.Legality.{legal_move, legal_reaches}
+use Rattle.move_rules.proofs.SpecialMoves.{passing, ep_rank, ep_tells, captures_aside}
 
 same_truth : (b c : Bool) → (b ≡ true → c ≡ true) → (c ≡ true → b ≡ true) → b ≡ c
 same_truth true c there back = sym (there refl)
@@ -54,6 +64,24 @@ captured_from p e m position at word h =
 -- whether some move from a square is a legal en passant capture
 abbrev pub captures_on : Parts → ℕ → Bool
 captures_on p e = list_any (λ a. is_legal_en_passant p (move_of a e None)) (range_with_len 0 64)
+
+-- a legal capture on e comes from where a pawn strikes e, which is where a pawn of the other side on e would strike
+struck_back : (p : Parts) (e a : ℕ) → is_legal_en_passant p (move_of a e None) ≡ true → pawn_strike (other p.turn) e a ≡ true
+struck_back p e a h =
+    let t = and_parts (is_en_passant p (move_of a e None)) (legal p (move_of a e None)) h in
+    let reach = reach_of p a e (legal_reaches p (move_of a e None) t.1) in
+    let aside = and_parts (is_pawn_move p (move_of a e None) && is_ep e p.ep) (not (file_of a == file_of e)) t.0 in
+    let pawn = (and_parts (is_pawn_move p (move_of a e None)) (is_ep e p.ep) aside.0).0 in
+    let kind = kind_of Pawn (piece_on p.cells a) reach.piece reach.stands pawn in
+    let goes : pawn_reaches p a e ≡ true = subst (λ (j : Kind). kind_reaches p j a e ≡ true) kind reach.how in
+    sym (pawn_turned p.turn a e) ∙ captures_aside p a e goes (not-true _ aside.1)
+
+-- so it is enough to ask those squares
+pub captures_listed : (p : Parts) (e set : ℕ) → IsSetOf set (pawn_strike (other p.turn) e) → list_any (λ a. is_legal_en_passant p (move_of a e None)) (squares_in set) ≡ captures_on p e
+unfolding squares_in
+captures_listed p e set is =
+    any_left_out (λ a. is_legal_en_passant p (move_of a e None)) (has set)
+    (λ a on gone. false_from_ne_true (is_legal_en_passant p (move_of a e None)) (λ h. both_ways _ (sym (is a on) ∙ gone) (struck_back p e a h)))
 
 in_range : (k x : ℕ) → k < length (range_with_len 0 64) → get_or (range_with_len 0 64) k x ≡ x → x < 64
 in_range k x inside at =

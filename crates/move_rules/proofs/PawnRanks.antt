@@ -13,11 +13,11 @@ use Rattle.board.specs.Square.{file_of, rank_of, apart}
 use Rattle.board.specs.Piece.{is_piece}
 use Rattle.board.specs.Attack.{piece_on, pawn_strike}
 use Rattle.board.specs.Position.{home, IsPosition, is_pawnless}
-use Rattle.move_rules.specs.Cells.{is_kind}
-use Rattle.move_rules.specs.Pawns.{ahead, last_rank, pawn_reaches}
+use Rattle.board.specs.Cells.{is_kind}
+use Rattle.board.specs.Pawns.{ahead, last_rank, pawn_reaches}
 use Rattle.move_rules.specs.After.{promoted_cell, arriving_cell, moved_cells, rook_moved_cells, cells_after, passed_pawn, is_en_passant, is_castling}
 use Rattle.move_rules.specs.Legal.{names_promo}
-use Rattle.move_rules.proofs.RangeTests.{all_at}
+use Rattle.board.proofs.RangeTests.{all_at}
 use Rattle.move_rules.proofs.Reached.{no_kind}
 use Rattle.move_rules.proofs.Legality.{Legal, goes_as, length_moved}
 use Rattle.move_rules.proofs.SpecialMoves.{castling}

@@ -9,10 +9,10 @@ use Rattle.board.specs.declared.parts.Parts.{Parts}
 use Rattle.board.specs.Moves.{MoveWord, IsMove}
 use Rattle.board.specs.Attack.{piece_on}
 use Rattle.board.specs.Position.{IsPosition, is_pawnless, home}
-use Rattle.move_rules.specs.Cells.{is_empty}
+use Rattle.board.specs.Cells.{is_empty}
 use Rattle.move_rules.specs.After.{after, cells_after, rights_after, half_after, number_after, next_count, moved_cells, rook_moved_cells, castled_cells, passed_pawn, is_en_passant, is_castling, is_pawn_move}
 use Rattle.move_rules.specs.Legal.{legal}
-use Rattle.move_rules.proofs.RangeTests.{all_from}
+use Rattle.board.proofs.RangeTests.{all_from}
 use Rattle.move_rules.proofs.Strikes.{other_other}
 use Rattle.move_rules.proofs.Legality.{legal_move, king_safe, length_moved}
 use Rattle.move_rules.proofs.KingsKept.{kings_after}

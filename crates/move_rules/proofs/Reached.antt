@@ -9,8 +9,8 @@ use Rattle.board.specs.declared.parts.Parts.{Parts}
 use Rattle.board.specs.Piece.{other, same_colour, same_kind, is_piece}
 use Rattle.board.specs.Attack.{piece_on}
 use Rattle.board.proofs.Equal.{same_colour-true, same_colour-itself, same_kind-true}
-use Rattle.move_rules.specs.Cells.{is_of, is_kind}
-use Rattle.move_rules.specs.Reach.{reaches, cell_reaches, kind_reaches}
+use Rattle.board.specs.Cells.{is_of, is_kind}
+use Rattle.board.specs.Reach.{reaches, cell_reaches, kind_reaches}
 
 -- a piece of the side to move stands on a, goes its way to b, and finds none of its own side there
 pub record Reach (p : Parts) (a b : ℕ) : Type 0 where

@@ -11,10 +11,10 @@ use Rattle.board.specs.Square.{file_of, rank_of, apart, distance}
 use Rattle.board.specs.Piece.{other, is_piece}
 use Rattle.board.specs.Attack.{piece_on, pawn_strike}
 use Rattle.board.specs.Position.{home, ep_holds}
-use Rattle.move_rules.specs.Cells.{is_kind}
-use Rattle.move_rules.specs.Pawns.{is_ep, pawn_reaches}
-use Rattle.move_rules.specs.Castling.{castles_short, castles_long}
-use Rattle.move_rules.specs.Reach.{king_reaches}
+use Rattle.board.specs.Cells.{is_kind}
+use Rattle.board.specs.Pawns.{is_ep, pawn_reaches}
+use Rattle.board.specs.Castling.{castles_short, castles_long}
+use Rattle.board.specs.Reach.{king_reaches}
 use Rattle.move_rules.specs.After.{is_pawn_move, is_en_passant, is_castling, moved_cells, passed_pawn}
 use Rattle.move_rules.proofs.Legality.{Legal, goes_as, moved_other}
 use Rattle.move_rules.proofs.Castlings.{short_tells, long_tells, home_low}

@@ -10,11 +10,11 @@ use Rattle.board.specs.declared.parts.Parts.{Parts}
 use Rattle.board.specs.Piece.{other, is_piece}
 use Rattle.board.specs.Attack.{piece_on, strikes_as, strikes_from, attacked, king_attacked, pawn_strike, king_step}
 use Rattle.board.proofs.Equal.{same_colour-itself}
-use Rattle.move_rules.specs.Cells.{is_empty}
-use Rattle.move_rules.specs.Pawns.{pawn_reaches}
-use Rattle.move_rules.specs.Castling.{castles_short, castles_long}
-use Rattle.move_rules.specs.Reach.{king_reaches, kind_reaches}
-use Rattle.move_rules.proofs.RangeTests.{any_at}
+use Rattle.board.specs.Cells.{is_empty}
+use Rattle.board.specs.Pawns.{pawn_reaches}
+use Rattle.board.specs.Castling.{castles_short, castles_long}
+use Rattle.board.specs.Reach.{king_reaches, kind_reaches}
+use Rattle.board.proofs.RangeTests.{any_at}
 use Rattle.move_rules.proofs.Castlings.{short_tells, long_tells}
 use Rattle.move_rules.proofs.Reached.{Reach}
 

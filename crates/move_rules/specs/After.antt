@@ -12,12 +12,16 @@ use Rattle.board.specs.Piece.{other}
 use Rattle.board.specs.Attack.{piece_on}
 use Rattle.board.specs.Position.{home}
 use Rattle.board.specs.Moves.{MoveWord}
-use Rattle.move_rules.specs.Cells.{is_kind, is_empty}
-use Rattle.move_rules.specs.Pawns.{halfway, is_ep}
+use Rattle.board.specs.Cells.{is_kind, is_empty}
+use Rattle.board.specs.Pawns.{halfway, is_ep}
 
 -- a pawn moves
 abbrev pub is_pawn_move : Parts → MoveWord → Bool
 is_pawn_move p m = is_kind Pawn (piece_on p.cells m.from)
+
+-- a quiet move: no pawn moves, and nothing is captured
+abbrev pub is_quiet : Parts → MoveWord → Bool
+is_quiet p m = not (is_pawn_move p m) && is_empty p.cells m.to
 
 -- a pawn goes to the en passant square from another file, and so captures the pawn that has just passed by
 abbrev pub is_en_passant : Parts → MoveWord → Bool

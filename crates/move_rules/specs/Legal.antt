@@ -4,8 +4,8 @@ use Rattle.board.specs.declared.parts.Parts.{Parts}
 use Rattle.board.specs.Square.{rank_of}
 use Rattle.board.specs.Attack.{king_attacked}
 use Rattle.board.specs.Moves.{MoveWord}
-use Rattle.move_rules.specs.Pawns.{last_rank}
-use Rattle.move_rules.specs.Reach.{reaches}
+use Rattle.board.specs.Pawns.{last_rank}
+use Rattle.board.specs.Reach.{reaches}
 use Rattle.move_rules.specs.After.{is_pawn_move, after}
 
 -- the king of the side to move is attacked

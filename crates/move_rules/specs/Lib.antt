@@ -1,9 +1,8 @@
-pub mod Cells
-pub mod Pawns
-pub mod Castling
-pub mod Reach
 pub mod After
 pub mod Legal
+pub mod Exposed
 pub mod Lists
 pub mod EnPassant
 pub mod Standing
+pub mod Weight
+pub mod Laws

@@ -1,24 +1,24 @@
-ghost use Rattle.std.specs.Prelude.{◌≡◌, ℕ, IsTrue};
+ghost use Rattle.std.specs.Prelude.{◌≡◌, IsTrue};
 ghost use Rattle.std.specs.List.{list_any};
 ghost use Rattle.board.specs.Moves.{can_be_promo};
-ghost use Rattle.move_rules.specs.Reach.{reaches};
+ghost use Rattle.board.specs.Reach.{reaches};
 ghost use Rattle.move_rules.specs.Legal.{legal};
-ghost use Rattle.move_rules.specs.Lists.{squares, move_of, moves_between, moves_from, has_legal_move};
+ghost use Rattle.move_rules.specs.Lists.{move_of, moves_between, moves_from, has_legal_move};
 
-use crate::cells::is_of;
+use crate::king_safety::occupied_squares;
 use crate::legal::is_legal_reached;
-use crate::reach::reaches;
-use board::{Kind, Move, Parts, Square};
+use bitboards::{Bits, first_square, without_first};
+use board::{Kind, Move, Square};
 
-fn is_legal_as(p: &Parts, from: Square, to: Square, promo: Option<Kind>) -> bool
+fn is_legal_as(p: &Bits, from: Square, to: Square, promo: Option<Kind>) -> bool
     requires reached { IsTrue (reaches p.now from to) }
     requires can { IsTrue (can_be_promo promo) }
     ensures { result ≡ legal p.now (move_of from to promo) }
 {
-    is_legal_reached(p, Move { from, to, promo })
+    is_legal_reached(p, occupied_squares(p), Move { from, to, promo })
 }
 
-fn has_legal_reached(p: &Parts, from: Square, to: Square) -> bool
+fn has_legal_reached(p: &Bits, from: Square, to: Square) -> bool
     requires { IsTrue (reaches p.now from to) }
     ensures { result ≡ list_any (legal p.now) (moves_between from to) }
 {
@@ -29,38 +29,29 @@ fn has_legal_reached(p: &Parts, from: Square, to: Square) -> bool
         || is_legal_as(p, from, to, Some(Kind::Knight))
 }
 
-#[tactic(auto, using(crate::proofs::MoveLists::any_between_none))]
-fn has_legal_between(p: &Parts, from: Square, to: Square) -> bool
-    ensures { result ≡ list_any (legal p.now) (moves_between from to) }
-{
-    reaches(p, from, to) && has_legal_reached(p, from, to)
-}
-
-fn has_legal_to_any(p: &Parts, from: Square) -> bool
-    ensures { let can_go = λ (b : ℕ). list_any (legal p.now) (moves_between from b)
-        in result ≡ list_any can_go squares }
-{
-    (0..64).any(|to| has_legal_between(p, from, Square::of(to)))
-}
-
-#[tactic(auto, using(crate::proofs::MoveLists::any_from, crate::proofs::MoveLists::any_from_none))]
-fn has_legal_from(p: &Parts, from: Square) -> bool
+fn has_legal_from(p: &Bits, from: Square) -> bool
     ensures { result ≡ list_any (legal p.now) (moves_from from) }
 {
-    is_of(p.at(from), p.turn) && has_legal_to_any(p, from)
-}
-
-fn has_legal_from_any(p: &Parts) -> bool
-    ensures { let can_leave = λ (a : ℕ). list_any (legal p.now) (moves_from a)
-        in result ≡ list_any can_leave squares }
-{
-    (0..64).any(|from| has_legal_from(p, Square::of(from)))
+    let mut targets = p.targets(from);
+    while targets != 0 {
+        if has_legal_reached(p, from, first_square(targets)) {
+            return true;
+        }
+        targets = without_first(targets);
+    }
+    false
 }
 
 /// Whether the side to move has a legal move. The search ends at the first.
-#[tactic(auto, using(crate::proofs::MoveLists::any_of_all))]
-pub(crate) fn has_legal_move(p: &Parts) -> bool
+pub(crate) fn has_legal_move(p: &Bits) -> bool
     ensures { result ≡ has_legal_move p.now }
 {
-    has_legal_from_any(p)
+    let mut own = p.placement().of_colour(p.turn());
+    while own != 0 {
+        if has_legal_from(p, first_square(own)) {
+            return true;
+        }
+        own = without_first(own);
+    }
+    false
 }

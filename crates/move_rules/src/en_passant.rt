@@ -8,10 +8,11 @@ ghost use Rattle.move_rules.specs.EnPassant.{is_legal_en_passant, ep_legal, cano
 
 use crate::board_after::is_en_passant;
 use crate::legal::is_legal_in;
-use board::{Move, Parts, Position, Square, without_ep};
+use bitboards::{Bits, first_square, pawn_strikes, without_first};
+use board::{Move, Position, Square, without_ep};
 
 // Whether a pawn on `from` may capture en passant on `to`.
-fn captures_from(p: &Parts, to: Square, from: Square) -> bool
+fn captures_from(p: &Bits, to: Square, from: Square) -> bool
     ensures { result ≡ is_legal_en_passant p.now (move_of from to None) }
 {
     let m = Move {
@@ -22,19 +23,26 @@ fn captures_from(p: &Parts, to: Square, from: Square) -> bool
     is_en_passant(p, m) && is_legal_in(p, m)
 }
 
-fn captures_on(p: &Parts, to: Square) -> bool
+fn captures_on(p: &Bits, to: Square) -> bool
     ensures { let captures = λ (a : ℕ). is_legal_en_passant p.now (move_of a to None)
         in result ≡ list_any captures squares }
 {
-    (0..64).any(|from| captures_from(p, to, Square::of(from)))
+    let mut pawns = pawn_strikes(p.turn().other(), to);
+    while pawns != 0 {
+        if captures_from(p, to, first_square(pawns)) {
+            return true;
+        }
+        pawns = without_first(pawns);
+    }
+    false
 }
 
 #[tactic(auto, using(crate::proofs::PassingMoves::ep_legal_none, crate::proofs::PassingMoves::ep_legal_some))]
-fn has_legal_capture(p: &Parts) -> bool
+fn has_legal_capture(p: &Bits) -> bool
     requires { IsPosition p.now }
     ensures { result ≡ ep_legal p.now }
 {
-    match p.ep {
+    match p.ep() {
         None => false,
         Some(to) => captures_on(p, to),
     }
@@ -47,7 +55,8 @@ pub fn ep_legal(p: &Position) -> bool
     ensures means { IsTrue result
         ↔ SomeMove (λ m. IsTrue (is_en_passant p.now m) × IsTrue (legal p.now m)) }
 {
-    has_legal_capture(p.as_parts())
+    let _status = p.status();
+    has_legal_capture(&Bits::of_position(p))
 }
 
 /// The same position, with no en passant square where no legal move uses it. Positions count as one that was repeated where

@@ -5,19 +5,20 @@ ghost use Rattle.move_rules.specs.Standing.{state_of};
 
 use crate::any_move::has_legal_move;
 use crate::standing::State;
+use bitboards::{Bits, is_king_attacked};
 use board::Position;
 
 /// Whether the king of the side to move is attacked (FIDE Laws of Chess, Article 3.9.1).
 pub fn in_check(p: &Position) -> bool
     ensures { result ≡ in_check p.now }
 {
-    p.as_parts().is_king_attacked(p.turn())
+    is_king_attacked(&p.placement(), p.turn())
 }
 
 fn standing_of(p: &Position) -> State
     ensures { result ≡ state_of p.now }
 {
-    if has_legal_move(p.as_parts()) {
+    if has_legal_move(&Bits::of_position(p)) {
         State::Going
     } else if in_check(p) {
         State::Mate

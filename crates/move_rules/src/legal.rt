@@ -1,23 +1,25 @@
-ghost use Rattle.std.specs.Prelude.{◌≡◌, IsTrue};
+ghost use Rattle.std.specs.Prelude.{◌≡◌, IsTrue, false, None};
 ghost use Rattle.board.specs.Position.{IsPosition};
-ghost use Rattle.move_rules.specs.Reach.{reaches};
+ghost use Rattle.board.specs.Reach.{reaches};
 ghost use Rattle.move_rules.specs.After.{after};
-ghost use Rattle.move_rules.specs.Legal.{is_promotion, names_promo, leaves_king_safe, legal};
+ghost use Rattle.move_rules.specs.Legal.{is_promotion, names_promo, legal};
+ghost use Rattle.move_rules.specs.Exposed.{IsSafeOutside};
 
-use crate::after::parts_after;
-use crate::board_after::is_pawn_move;
+use crate::after::status_after;
+use crate::board_after::{cells_after, is_pawn_move};
+use crate::king_safety::{is_safe, occupied_squares};
 use crate::pawns::last_rank_of;
-use crate::reach::reaches;
-use board::{Move, Parts, Position};
+use bitboards::{Bits, has_square};
+use board::{Move, Position, Square};
 
-fn is_promotion(p: &Parts, m: Move) -> bool
+pub(crate) fn is_promotion(p: &Bits, m: Move) -> bool
     ensures { result ≡ is_promotion p.now m }
 {
-    is_pawn_move(p, m) && m.to.rank() == last_rank_of(p.turn)
+    m.to.rank() == last_rank_of(p.turn()) && is_pawn_move(p, m)
 }
 
 #[tactic(auto, unfolding(crate::specs::Legal::names_promo))]
-fn names_promo(p: &Parts, m: Move) -> bool
+fn names_promo(p: &Bits, m: Move) -> bool
     ensures { result ≡ names_promo p.now m }
 {
     if is_promotion(p, m) {
@@ -27,28 +29,40 @@ fn names_promo(p: &Parts, m: Move) -> bool
     }
 }
 
-#[tactic(auto, unfolding(crate::specs::Legal::leaves_king_safe))]
-fn leaves_king_safe(p: &Parts, m: Move) -> bool
-    ensures { result ≡ leaves_king_safe p.now m }
+/// Whether a move is legal by which a piece goes where it reaches and none is promoted: the king decides.
+#[tactic(auto, using(crate::proofs::MoveLists::legal_where_plain))]
+pub(crate) fn is_legal_plain(p: &Bits, exposed: u64, m: Move) -> bool
+    requires reached { IsTrue (reaches p.now m.from m.to) }
+    requires outside { IsSafeOutside p.now exposed }
+    requires plain { is_promotion p.now m ≡ false }
+    requires names_none { m.promo ≡ None }
+    ensures { result ≡ legal p.now m }
 {
-    !parts_after(p, m).is_king_attacked(p.turn)
+    is_safe(p, exposed, m)
 }
 
 /// Whether a move is legal by which a piece goes where it reaches: promotion and king decide.
 #[tactic(auto, using(crate::proofs::MoveLists::legal_where_reached))]
-pub(crate) fn is_legal_reached(p: &Parts, m: Move) -> bool
-    requires { IsTrue (reaches p.now m.from m.to) }
+pub(crate) fn is_legal_reached(p: &Bits, exposed: u64, m: Move) -> bool
+    requires reached { IsTrue (reaches p.now m.from m.to) }
+    requires outside { IsSafeOutside p.now exposed }
     ensures { result ≡ legal p.now m }
 {
-    names_promo(p, m) && leaves_king_safe(p, m)
+    names_promo(p, m) && is_safe(p, exposed, m)
 }
 
-/// Whether a move is legal, asked of the parts of a position.
+fn reaches(p: &Bits, from: Square, to: Square) -> bool
+    ensures { result ≡ reaches p.now from to }
+{
+    has_square(p.targets(from), to)
+}
+
+/// Whether a move is legal, asked of the sets of a position.
 #[tactic(auto, using(crate::proofs::MoveLists::illegal_unless_reached))]
-pub(crate) fn is_legal_in(p: &Parts, m: Move) -> bool
+pub(crate) fn is_legal_in(p: &Bits, m: Move) -> bool
     ensures { result ≡ legal p.now m }
 {
-    reaches(p, m.from, m.to) && is_legal_reached(p, m)
+    reaches(p, m.from, m.to) && is_legal_reached(p, occupied_squares(p), m)
 }
 
 /// Whether the move is legal in the position: the piece goes there by its way of moving (FIDE Laws of Chess, Articles 3.1 to
@@ -57,7 +71,18 @@ pub(crate) fn is_legal_in(p: &Parts, m: Move) -> bool
 pub fn is_legal(p: &Position, m: Move) -> bool
     ensures { result ≡ legal p.now m }
 {
-    is_legal_in(p.as_parts(), m)
+    is_legal_in(&Bits::of_position(p), m)
+}
+
+fn position_after(p: &Bits, m: Move) -> Position
+    requires position { IsPosition p.now }
+    requires legal { IsTrue (legal p.now m) }
+    ensures is { result ≡ after p.now m }
+    ensures keeps { IsPosition result }
+{
+    m.keeps();
+    let cells = cells_after(p, m);
+    Position::of_placement(cells, status_after(p, m))
 }
 
 /// The position after a legal move: the board with what was captured taken off, a promoted pawn as what it has become and
@@ -68,6 +93,6 @@ pub fn make(p: &Position, m: Move) -> Position
     ensures is { result ≡ after p.now m }
     ensures keeps { IsPosition result }
 {
-    m.keeps();
-    Position::of(parts_after(p.as_parts(), m))
+    let _status = p.status();
+    position_after(&Bits::of_position(p), m)
 }

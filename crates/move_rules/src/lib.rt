@@ -6,20 +6,21 @@
 mod after;
 mod any_move;
 mod board_after;
-mod castling;
 mod cells;
 mod en_passant;
 mod ending;
+mod king_safety;
+mod laws;
 mod legal;
 mod list;
 mod pawns;
-mod reach;
 mod standing;
 #[cfg(test)]
 mod tests;
 
 pub use en_passant::{canonical, ep_legal};
 pub use ending::{in_check, state};
+pub use laws::{en_passant_is_by_a_move, moves_lead_to_positions};
 pub use legal::{is_legal, make};
 pub use list::legal_moves;
 pub use standing::State;

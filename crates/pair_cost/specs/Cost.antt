@@ -39,6 +39,6 @@ factor rank max = if max == 0 then 2000 else 300 + 1700 * (max - rank) / max
 abbrev pub cost : Frame → Candidate → Candidate → ℕ
 cost f a b = abs_diff a.rank b.rank * factor (min a.rank b.rank) f.max + abs_diff a.rating b.rating + rematch f a b
 
--- under rule 2, 50,000,000 for each committed wave that has left him alone since his last game, of which a hundred count
+-- under rule 2, 50,000,000 for each committed wave that has left him alone since his last game began, of which a hundred count
 abbrev pub charge : Frame → Candidate → ℕ
 charge f a = if f.rule == 2 then 50000000 * min a.alone 100 else 0

@@ -12,7 +12,7 @@ pub struct Candidate {
     pub balance: i32,
     /// His team, if he plays for one.
     pub team: Option<u32>,
-    /// How many committed waves have left him alone since his last game.
+    /// How many committed waves have left him alone since his last game began.
     pub alone: u32,
 }
 
@@ -23,8 +23,8 @@ pub struct Frame {
     pub max: u32,
     /// How many are idle.
     pub idle: u32,
-    /// The rule of pairing, 1 or 2. Under rule 2 it costs more to leave a player alone again, and nobody meets his last
-    /// opponent again at once while more than two are idle.
+    /// The rule of pairing, 1 or 2. Under rule 2 it costs more to leave a player alone again, and no two who met each
+    /// other in their last games meet again while more than two are idle.
     pub rule: u32,
 }
 

@@ -22,7 +22,7 @@ pub fn cost(a: &Candidate, b: &Candidate, f: &Frame) -> Option<u64>
 }
 
 /// What leaving the player alone costs, at most 5,000,000,000: nothing but under rule 2, and there 50,000,000 for each
-/// committed wave that has left him alone since his last game, of which a hundred count.
+/// committed wave that has left him alone since his last game began, of which a hundred count.
 pub fn charge(a: &Candidate, f: &Frame) -> u64
     ensures charge { result ≡ charge f.now a.now }
     ensures most { result ≤ 5000000000 }

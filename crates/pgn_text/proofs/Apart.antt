@@ -10,7 +10,7 @@ use Rattle.board.specs.Moves.{MoveWord, IsMove}
 use Rattle.board.specs.Square.{file_of, rank_of}
 use Rattle.board.specs.Attack.{piece_on}
 use Rattle.board.specs.Words.{square_word}
-use Rattle.move_rules.specs.Cells.{is_kind}
+use Rattle.board.specs.Cells.{is_kind}
 use Rattle.move_rules.specs.Legal.{legal}
 use Rattle.move_rules.specs.Lists.{squares, move_of}
 use Rattle.pgn_text.specs.San.{is_rival, is_file_rival, is_rank_rival, apart_text, file_letter, rank_digit}

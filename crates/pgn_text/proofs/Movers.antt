@@ -8,9 +8,9 @@ use Rattle.board.specs.Moves.{MoveWord}
 use Rattle.board.specs.Piece.{same_kind}
 use Rattle.board.specs.Square.{rank_of}
 use Rattle.board.specs.Attack.{piece_on}
-use Rattle.move_rules.specs.Cells.{is_kind}
-use Rattle.move_rules.specs.Pawns.{last_rank}
-use Rattle.move_rules.specs.Reach.{reaches, cell_reaches, kind_reaches}
+use Rattle.board.specs.Cells.{is_kind}
+use Rattle.board.specs.Pawns.{last_rank}
+use Rattle.board.specs.Reach.{reaches, cell_reaches, kind_reaches}
 use Rattle.move_rules.specs.After.{is_pawn_move}
 use Rattle.move_rules.specs.Legal.{is_promotion, names_promo, leaves_king_safe, legal}
 use Rattle.pgn_text.specs.San.{kind_at}

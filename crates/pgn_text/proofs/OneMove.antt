@@ -12,8 +12,8 @@ use Rattle.board.specs.Moves.{MoveWord, IsMove}
 use Rattle.board.specs.Square.{file_of, rank_of, apart}
 use Rattle.board.specs.Attack.{piece_on, pawn_strike}
 use Rattle.board.specs.Words.{square_word}
-use Rattle.move_rules.specs.Cells.{is_kind, is_empty}
-use Rattle.move_rules.specs.Pawns.{is_ep, ahead, halfway, single_step, double_step}
+use Rattle.board.specs.Cells.{is_kind, is_empty}
+use Rattle.board.specs.Pawns.{is_ep, ahead, halfway, single_step, double_step}
 use Rattle.move_rules.specs.After.{is_pawn_move, is_en_passant, after}
 use Rattle.move_rules.specs.Legal.{legal, in_check}
 use Rattle.move_rules.specs.Lists.{has_legal_move}

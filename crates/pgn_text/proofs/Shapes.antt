@@ -13,9 +13,9 @@ use Rattle.board.specs.Position.{home}
 use Rattle.board.specs.Square.{file_of, rank_of, apart, distance}
 use Rattle.board.specs.Attack.{piece_on, pawn_strike, king_step}
 use Rattle.board.specs.Words.{square_word}
-use Rattle.move_rules.specs.Cells.{is_kind, is_of, is_empty}
-use Rattle.move_rules.specs.Pawns.{ahead, pawn_rank, halfway, is_ep, single_step, double_step, pawn_capture}
-use Rattle.move_rules.specs.Castling.{castles, castles_short, castles_long, short_right, long_right, all_empty, all_safe}
+use Rattle.board.specs.Cells.{is_kind, is_of, is_empty}
+use Rattle.board.specs.Pawns.{ahead, pawn_rank, halfway, is_ep, single_step, double_step, pawn_capture}
+use Rattle.board.specs.Castling.{castles, castles_short, castles_long, short_right, long_right, all_empty, all_safe}
 use Rattle.move_rules.specs.After.{is_pawn_move, is_en_passant, is_castling}
 use Rattle.move_rules.specs.Legal.{legal}
 use Rattle.move_rules.specs.Lists.{move_of}

@@ -11,7 +11,7 @@ use Rattle.board.specs.Attack.{piece_on}
 use Rattle.board.specs.Words.{square_word}
 use Rattle.board.specs.Fen.{piece_letter}
 use Rattle.board.specs.Moves.{MoveWord}
-use Rattle.move_rules.specs.Cells.{is_kind, is_empty}
+use Rattle.board.specs.Cells.{is_kind, is_empty}
 use Rattle.move_rules.specs.After.{is_pawn_move, is_en_passant, is_castling, after}
 use Rattle.move_rules.specs.Legal.{legal, in_check}
 use Rattle.move_rules.specs.Lists.{squares, move_of, has_legal_move}

@@ -1,8 +1,8 @@
 //! What SAN asks of a move beside its legality.
 
 ghost use Rattle.std.specs.Prelude.{◌≡◌};
-ghost use Rattle.move_rules.specs.Cells.{is_kind};
-ghost use Rattle.move_rules.specs.Pawns.{is_ep};
+ghost use Rattle.board.specs.Cells.{is_kind};
+ghost use Rattle.board.specs.Pawns.{is_ep};
 ghost use Rattle.move_rules.specs.After.{is_pawn_move, is_en_passant, is_castling};
 ghost use Rattle.pgn_text.specs.San.{captures, kind_at};
 

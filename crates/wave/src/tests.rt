@@ -163,7 +163,7 @@ fn pairs_stand_in_order_with_their_colours(rt: HostRuntime) -> Result<(), Fail> 
     let mut solvers = benches(alloc, 2)?;
     let mut rows = players(alloc, 4, None)?;
     assert_eq!(rt; rows.len(), 4);
-    // none is a rematch; the third has had White less often than the fourth, and the second less often than the first
+    // none is a rematch; the third has the smaller balance of the third and the fourth, the second of the first two
     for row in rows.iter_mut() {
         row.last = None;
     }

@@ -154,8 +154,9 @@ fn write_fields(p: &Position) -> Fen
     ensures len { length result.bytes ≤ 93 }
     ensures only { (q : Parts) → IsPosition q → fen_of q ≡ result.bytes → q ≡ p.now }
 {
+    let parts = p.parts();
     let mut out = ArrayString::new();
-    push_ranks(&mut out, &p.as_parts().cells, 7);
+    push_ranks(&mut out, &parts.cells, 7);
     push_byte(&mut out, b' ');
     push_turn(&mut out, p.turn());
     push_byte(&mut out, b' ');

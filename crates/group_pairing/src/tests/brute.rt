@@ -33,7 +33,7 @@ fn is_less(weight: (u32, u64), least: Option<(u32, u64)>) -> bool {
     }
 }
 
-// The word of this number, by alphabetical order, over the places and 14.
+// The word of this number, by lexicographic order, over the places and 14.
 fn spelled(word: u32, places: usize) -> [u8; 14]
     requires { places ≤ 14 }
 {

@@ -2,5 +2,4 @@ use Rattle.board.proofs.Equal.{same-means}
 use Rattle.board.proofs.same.same_cells.Goals as goal
 
 pub returns-clause-means : goal.returns-clause-means
-returns-clause-means c =
-    rw (c.are_same.ensures, c.as_parts.ensures.is, c.as_parts-2.ensures.is) (same-means c.args.a.now c.args.b.now)
+returns-clause-means c = rw (c.are_same.ensures) (same-means c.args.a.now c.args.b.now)

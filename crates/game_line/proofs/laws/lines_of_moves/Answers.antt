@@ -10,5 +10,5 @@ returns c = record {
   length = length-line;
   one_more_is_legal = one_more_is_legal;
   beginnings = legal_beginning;
-  positions = legal_positions;
+  positions = legal_positions c.laws_of_moves.ensures;
 }

@@ -15,7 +15,7 @@ later : (c : goal.After-accept) (h : Header) (events : List Event) → StandsFor
 later c h events room =
     subst (λ (k : Held). StandsFor k h (events ++ act_of c.args.who c.args.a c.args.t ∷ []))
     (sym c.accept.ensures.is)
-    (act_stands c.args.self.now h events c.args.who c.args.a c.args.t room (sym c.in-None.ensures) c.keeps.ensures c.has_room.ensures)
+    (act_stands c.repetitions_are_kept.ensures c.args.self.now h events c.args.who c.args.a c.args.t room (sym c.in-None.ensures) c.keeps.ensures c.has_room.ensures)
 
 pub returns-in-None-clause-answer : goal.returns-in-None-clause-answer
 returns-in-None-clause-answer c h events room =

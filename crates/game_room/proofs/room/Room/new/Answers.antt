@@ -12,4 +12,4 @@ returns c =
     let past = c.new-past.ensures ∙ ap (λ (p : Parts). appearance_of p ∷ []) first in
     subst (λ (k : Held). StandsFor k c.args.h [])
     (sym (new_is c.args.h c.start-position.result c.new-past.result c.new-clock.result c.start-position.ensures past))
-    (new_stands c.args.h c.new-clock.result c.new-clock.ensures)
+    (new_stands c.repetitions_are_kept.ensures c.args.h c.new-clock.result c.new-clock.ensures)

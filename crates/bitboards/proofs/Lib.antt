@@ -1,0 +1,11 @@
+pub mod Agreement
+pub mod Masks
+pub mod Open
+pub mod Ways
+pub mod Rays
+pub mod Listed
+pub mod Tabled
+pub mod Turned
+pub mod Strikers
+pub mod Ahead
+pub mod Sight

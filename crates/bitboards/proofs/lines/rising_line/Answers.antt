@@ -1,0 +1,5 @@
+use Rattle.bitboards.proofs.Ways.{rising_line_has}
+use Rattle.bitboards.proofs.lines.rising_line.Goals as goal
+
+pub returns-clause-is : goal.returns-clause-is
+returns-clause-is c = λ t on. rising_line_has c.args.s c.index-s.result c.index-s.ensures.is c.index-s.ensures.on_board t on

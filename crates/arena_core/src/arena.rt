@@ -269,7 +269,7 @@ impl Arena {
     }
 
     /// The number of the game that is number `i`, from 0, of the games that count, in the order in which they ended, or None
-    /// where there are no so many.
+    /// where there are not so many.
     pub fn counted(&self, i: u32) -> Option<u32>
         ensures { result ≡ option_map (λ (x : EndedGame). x.game.header.id) (slice_get (finished self.now.setup (past self.now)) i) }
     {

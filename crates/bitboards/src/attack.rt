@@ -68,8 +68,7 @@ pub fn is_king_attacked(board: &Placement, colour: Colour) -> bool
     false
 }
 
-/// All that the kings of this colour see along files, ranks and diagonals. Only a piece that stands there can keep an attack
-/// off its king.
+/// All that the kings of this colour see along files, ranks and diagonals.
 pub fn seen_by_king(board: &Placement, colour: Colour) -> u64
     ensures { IsSetOf result (seen_by_king board.now colour) }
 {

@@ -2,8 +2,7 @@
 //!
 //! The layers above rely on each answer being that of `board`'s definitions: `Bits::attacked` that of `Parts::attacked`, and
 //! `Bits::targets` exactly the squares that `Parts::reaches` names. Lines are cut by the first square that is occupied, and
-//! steps are read from tables that are proved once, by computation. What leaves a square that no king sees uncovers none of
-//! them (`seen_by_king`).
+//! steps are read from tables that are proved once, by computation.
 #![tactic(auto)]
 
 mod attack;

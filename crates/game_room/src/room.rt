@@ -263,10 +263,11 @@ impl Room {
         self.clock.no_show(t) || self.clock.fallen(t)
     }
 
-    // A game that goes on can take a further position.
+    // Says to the proof that a game that goes on can take a further position, and does nothing.
     fn has_room(&self)
         ensures { self.now.outcome ≡ None → self.now.position.half < 150 }
     {
+        // It is read so that the proof has what every position keeps.
         let _position = &self.position;
     }
 }

@@ -47,7 +47,7 @@ fn ended_in(answer: &Result<Answer, QueryFault>) -> Option<Ended>
 }
 
 /// What is told of the game that is number `i`, from 0, of the games that count, in the order in which they ended, or None where
-/// there are no so many. It is found at once.
+/// there are not so many. It is found at once.
 pub fn counted_game(alloc: Global, a: &Arena, i: u32) -> Option<Ended>
     ensures { result ≡ option_map told (slice_get (finished a.now.setup (past a.now)) i) }
 {

@@ -1,5 +1,5 @@
 -- The lists of moves, square by square.
-use Rattle.std.proofs.Common.{◌≡◌, ℕ, ◌+◌, List, [], ◌∷◌, ◌++◌, refl, arith, ap, sym, ◌∙◌, ◌<◌, ◌≤◌, zero, suc, inl, inr, append-nil, append_assoc, Bool, true, false, ◌&&◌, Option, None, Some, filter}
+use Rattle.std.proofs.Common.{◌≡◌, ℕ, ◌+◌, List, [], ◌∷◌, ◌++◌, refl, arith, ap, sym, ◌∙◌, ◌<◌, ◌≤◌, zero, suc, inl, inr, append-nil, append_assoc, Bool, true, false, ◌&&◌, Option, None, Some, filter, nat_lt, lt-ltb}
 use Rattle.std.proofs.lemmas.List.Elements.{filter-append}
 use Rattle.std.proofs.lemmas.List.Concat.{flat_map-cons}
 use Rattle.std.proofs.lemmas.List.Folds.{list_any-append}
@@ -9,7 +9,7 @@ use Rattle.board.specs.declared.piece.Kind.{Kind}
 use Rattle.board.specs.declared.piece.Kind.TheVariants.{Knight, Bishop, Rook, Queen}
 use Rattle.board.specs.declared.piece.Piece.{Piece}
 use Rattle.board.specs.declared.parts.Parts.{Parts}
-use Rattle.board.specs.Moves.{MoveWord}
+use Rattle.board.specs.Moves.{MoveWord, IsMove}
 use Rattle.board.specs.Attack.{piece_on}
 use Rattle.board.specs.Cells.{is_of}
 use Rattle.board.specs.Sets.{has, IsSetOf}
@@ -17,13 +17,17 @@ use Rattle.board.proofs.RangeTests.{any_same}
 use Rattle.bitboards.specs.Squares.{squares_in}
 use Rattle.bitboards.proofs.Strikers.{any_filtered, nothing_in}
 use Rattle.board.specs.Reach.{reaches, cell_reaches}
-use Rattle.move_rules.specs.Legal.{is_promotion, names_promo, leaves_king_safe, legal}
+use Rattle.move_rules.specs.Legal.{is_move, is_promotion, names_promo, leaves_king_safe, legal}
 use Rattle.move_rules.specs.Lists.{move_of, moves_between, moves_from, all_moves, legal_moves, has_legal_move, squares}
 
 -- where a piece goes, promotion and king decide
-pub legal_where_reached : (p : Parts) (m : MoveWord) → reaches p m.from m.to ≡ true → legal p m ≡ (names_promo p m && leaves_king_safe p m)
+pub is_move_is : (m : MoveWord) → IsMove m → is_move m ≡ true
+unfolding is_move
+is_move_is m word = rw (lt-ltb m.from 64 word.from, lt-ltb m.to 64 word.to, word.promo) refl
+
+pub legal_where_reached : (p : Parts) (m : MoveWord) → IsMove m → reaches p m.from m.to ≡ true → legal p m ≡ (names_promo p m && leaves_king_safe p m)
 unfolding legal
-legal_where_reached p m h = rw h refl
+legal_where_reached p m word h = rw (is_move_is m word, h) refl
 
 -- one move, kept or dropped
 pub keeps_legal : (p : Parts) (m : MoveWord) → legal p m ≡ true → filter (legal p) (m ∷ []) ≡ m ∷ []
@@ -45,7 +49,7 @@ between_parts p a b = filter-five (legal p) (move_of a b None) (move_of a b (Som
 -- no move is legal where no piece goes
 pub illegal_unless_reached : (p : Parts) (m : MoveWord) → reaches p m.from m.to ≡ false → legal p m ≡ false
 unfolding legal
-illegal_unless_reached p m h = rw h refl
+illegal_unless_reached p m h = and_left _ _ (and_left _ _ (and_right (is_move m) (reaches p m.from m.to) h))
 
 pub none_between : (p : Parts) (a b : ℕ) → reaches p a b ≡ false → filter (legal p) (moves_between a b) ≡ []
 none_between p a b h =
@@ -116,13 +120,13 @@ unfolding legal_among all_moves squares_in
 own_listed p set is = unlisted (legal p) moves_from (has set) 0 64 (λ a low on gone. none_from p a (sym (is a on) ∙ gone))
 
 -- where nothing is promoted, only the move that names nothing can be legal, and the king decides
-pub legal_where_plain : (p : Parts) (m : MoveWord) → reaches p m.from m.to ≡ true → is_promotion p m ≡ false → m.promo ≡ None → legal p m ≡ leaves_king_safe p m
+pub legal_where_plain : (p : Parts) (m : MoveWord) → IsMove m → reaches p m.from m.to ≡ true → is_promotion p m ≡ false → m.promo ≡ None → legal p m ≡ leaves_king_safe p m
 unfolding legal names_promo
-legal_where_plain p m h plain none = rw (h, plain, none) refl
+legal_where_plain p m word h plain none = rw (is_move_is m word, h, plain, none) refl
 
 named_illegal : (p : Parts) (a b : ℕ) (k : Kind) → is_promotion p (move_of a b None) ≡ false → legal p (move_of a b (Some k)) ≡ false
 unfolding legal names_promo
-named_illegal p a b k plain = rw plain (and_left _ _ (and_right (reaches p a b) false refl))
+named_illegal p a b k plain = rw plain (and_left _ _ (and_right (is_move (move_of a b (Some k)) && reaches p a b) false refl))
 
 pub plain_between : (p : Parts) (a b : ℕ) → is_promotion p (move_of a b None) ≡ false → filter (legal p) (moves_between a b) ≡ filter (legal p) (move_of a b None ∷ [])
 plain_between p a b plain =

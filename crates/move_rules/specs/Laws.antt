@@ -9,6 +9,10 @@ use Rattle.move_rules.specs.Lists.{SomeMove}
 use Rattle.move_rules.specs.EnPassant.{ep_legal}
 use Rattle.move_rules.specs.Weight.{weight_of}
 
+-- a legal word is a move
+abbrev pub LegalWordsAreMoves : Type 0
+LegalWordsAreMoves = (p : Parts) (m : MoveWord) → IsTrue (legal p m) → IsMove m
+
 -- a legal move leads from a position to a position
 abbrev pub MovesLeadToPositions : Type 0
 MovesLeadToPositions = (p : Parts) (m : MoveWord)
@@ -35,7 +39,7 @@ QuietMovesKeepWeight = (p : Parts) (m : MoveWord)
     → is_quiet p m ≡ true
     → weight_of (after p m) ≡ weight_of p
 
--- an en passant square matters where some legal move captures there
+-- an en passant square matters exactly where some legal move captures there
 abbrev pub EnPassantIsByAMove : Type 0
 EnPassantIsByAMove = (p : Parts)
     → IsTrue (ep_legal p) ↔ SomeMove (λ m. IsTrue (is_en_passant p m) × IsTrue (legal p m))

@@ -55,6 +55,7 @@ pub fn ep_legal(p: &Position) -> bool
     ensures means { IsTrue result
         ↔ SomeMove (λ m. IsTrue (is_en_passant p.now m) × IsTrue (legal p.now m)) }
 {
+    // It is read so that the proof has what every position keeps.
     let _status = p.status();
     has_legal_capture(&Bits::of_position(p))
 }

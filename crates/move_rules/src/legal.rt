@@ -38,6 +38,7 @@ pub(crate) fn is_legal_plain(p: &Bits, exposed: u64, m: Move) -> bool
     requires names_none { m.promo ≡ None }
     ensures { result ≡ legal p.now m }
 {
+    m.keeps();
     is_safe(p, exposed, m)
 }
 
@@ -48,6 +49,7 @@ pub(crate) fn is_legal_reached(p: &Bits, exposed: u64, m: Move) -> bool
     requires outside { IsSafeOutside p.now exposed }
     ensures { result ≡ legal p.now m }
 {
+    m.keeps();
     names_promo(p, m) && is_safe(p, exposed, m)
 }
 
@@ -93,6 +95,7 @@ pub fn make(p: &Position, m: Move) -> Position
     ensures is { result ≡ after p.now m }
     ensures keeps { IsPosition result }
 {
+    // It is read so that the proof has what every position keeps.
     let _status = p.status();
     position_after(&Bits::of_position(p), m)
 }

@@ -20,7 +20,7 @@ mod tests;
 
 pub use en_passant::{canonical, ep_legal};
 pub use ending::{in_check, state};
-pub use laws::{en_passant_is_by_a_move, moves_lead_to_positions};
+pub use laws::{en_passant_is_by_a_move, legal_words_are_moves, moves_lead_to_positions};
 pub use legal::{is_legal, make};
 pub use list::legal_moves;
 pub use standing::State;

@@ -12,7 +12,7 @@ use Rattle.board.specs.Cells.{is_kind}
 use Rattle.board.specs.Pawns.{last_rank}
 use Rattle.board.specs.Reach.{reaches, cell_reaches, kind_reaches}
 use Rattle.move_rules.specs.After.{is_pawn_move}
-use Rattle.move_rules.specs.Legal.{is_promotion, names_promo, leaves_king_safe, legal}
+use Rattle.move_rules.specs.Legal.{is_move, is_promotion, names_promo, leaves_king_safe, legal}
 use Rattle.pgn_text.specs.San.{kind_at}
 
 -- a piece of this kind makes the move by its way of moving, and names a promotion where there is one
@@ -35,9 +35,9 @@ cell_moves p m (Some piece) e h named = record {
 pub mover : (p : Parts) (m : MoveWord) → legal p m ≡ true → Mover p m (kind_at (piece_on p.cells m.from))
 unfolding legal reaches
 mover p m h =
-    let one = and_parts (reaches p m.from m.to && names_promo p m) (leaves_king_safe p m) h in
-    let two = and_parts (reaches p m.from m.to) (names_promo p m) one.0 in
-    cell_moves p m (piece_on p.cells m.from) refl two.0 two.1
+    let one = and_parts (is_move m && reaches p m.from m.to && names_promo p m) (leaves_king_safe p m) h in
+    let two = and_parts (is_move m && reaches p m.from m.to) (names_promo p m) one.0 in
+    cell_moves p m (piece_on p.cells m.from) refl (and_parts (is_move m) (reaches p m.from m.to) two.0).1 two.1
 
 none_from_is_none : (k : Option Kind) → is_none k ≡ true → k ≡ None
 none_from_is_none None h = refl

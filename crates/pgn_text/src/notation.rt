@@ -68,5 +68,6 @@ pub(crate) fn push_square(out: &mut ArrayString<8>, s: Square)
 pub fn one_san_is_one_move(p: &Position)
     ensures { (bytes : List ℕ) (m n : MoveWord) → Names p.now bytes m → Names p.now bytes n → m ≡ n }
 {
+    // It is read so that the proof has what every position keeps.
     let _turn = p.turn();
 }

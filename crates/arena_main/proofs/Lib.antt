@@ -1,1 +1,4 @@
 mod Ends
+mod FiveWords
+mod Numbers
+mod OneForm

@@ -1,8 +1,10 @@
 -- What a run of the program has done, by its words and its status.
-use Rattle.std.specs.Prelude.{◌≡◌, ℕ, ◌⊎◌, List, [], ◌∷◌, Option, IfSome, Result, Ok, Err, codes}
+use Rattle.std.specs.Prelude.{◌≡◌, ℕ, ◌⊎◌, List, [], ◌∷◌, Option, Some, None, IfSome, Result, Ok, Err, codes}
 use Rattle.conn.specs.Told.{Gained, GainedPart}
 use Rattle.replay.specs.declared.replay_end.ReplayEnd.{ReplayEnd}
 use Rattle.replay.specs.declared.replay_end.ReplayEnd.TheVariants as end
+use Rattle.arena_main.specs.declared.forms.Form.{Form}
+use Rattle.arena_main.specs.declared.forms.Form.TheVariants as form
 use Rattle.arena_main.specs.declared.status.Status.{Status}
 use Rattle.arena_main.specs.declared.status.Status.TheVariants.{Done, BadWords, BadJournal, Illegal, TooLong, ReadFault, WriteFault, OutOfMemory}
 use Rattle.replay.specs.declared.replaying.Wanted.{Wanted}
@@ -14,15 +16,36 @@ use Rattle.replay.specs.Replays.{HadFate, HadText, IsReadToEnd}
 use Rattle.entries.specs.declared.journal.Journal.{Journal}
 use Rattle.journal_text.specs.declared.fault.JournalFault.{JournalFault}
 use Rattle.journal_replay.specs.declared.illegal.IllegalCause.{IllegalCause}
+use Rattle.table_text.specs.Table.{summary}
+use Rattle.workload.specs.Setups.{setup_of}
+use Rattle.workload.specs.Workloads.{entries_of}
+use Rattle.arena_main.specs.Forms.{HasForm}
 use Rattle.arena_main.specs.Words.{cause_line, journal_word, illegal_word}
 use Rattle.arena_main.specs.declared.telling.TellFault.{TellFault}
 use Rattle.arena_main.specs.declared.telling.TellFault.TheVariants as hindered
 
+-- the form that asks for this of a journal
+abbrev pub form_of : Wanted → Form
+form_of Table = form.Replay
+form_of Upgraded = form.Upgrade
+form_of Games = form.Pgn
+
 -- the words are the one word that asks for this of a journal
 abbrev pub Asks : List (List ℕ) → Wanted → Type 0
-Asks words Table = words ≡ codes "replay" ∷ []
-Asks words Upgraded = words ≡ codes "upgrade" ∷ []
-Asks words Games = words ≡ codes "pgn" ∷ []
+Asks words wanted = HasForm words (form_of wanted)
+
+-- the words ask for nothing of a journal, and for no large journal
+abbrev pub AsksNothing : List (List ℕ) → Type 0
+AsksNothing words = ((wanted : Wanted) → ¬ Asks words wanted) × ((seed players : ℕ) → ¬ HasForm words (form.Gen seed players))
+
+-- the form asks for nothing of a journal, and for no large journal
+abbrev pub IsOther : Option Form → Type 0
+IsOther None = Unit {0}
+IsOther (Some (form.Serve port workers)) = Unit {0}
+IsOther (Some form.Replay) = ⊥
+IsOther (Some form.Upgrade) = ⊥
+IsOther (Some form.Pgn) = ⊥
+IsOther (Some (form.Gen seed players)) = ⊥
 
 -- what is written for other words
 abbrev pub usage : List ℕ
@@ -38,6 +61,18 @@ RefusesWords old new Illegal = ⊥
 RefusesWords old new TooLong = ⊥
 RefusesWords old new ReadFault = ⊥
 RefusesWords old new OutOfMemory = ⊥
+
+-- a run for a seed and a number of players: it has written the beginning and the end of the table of their journal, or a part of
+-- that where a write failed, or nothing where memory ran out
+abbrev pub Generates : ℕ → ℕ → Option (List ℕ) → Option (List ℕ) → Status → Type 0
+Generates seed players old new Done = Gained old new (summary (setup_of seed players) (entries_of seed players))
+Generates seed players old new WriteFault = GainedPart old new (summary (setup_of seed players) (entries_of seed players))
+Generates seed players old new OutOfMemory = new ≡ old
+Generates seed players old new BadWords = ⊥
+Generates seed players old new BadJournal = ⊥
+Generates seed players old new Illegal = ⊥
+Generates seed players old new TooLong = ⊥
+Generates seed players old new ReadFault = ⊥
 
 -- the status of a run over a text that comes to this
 abbrev pub status_due : Fate → Status

@@ -1,4 +1,4 @@
-use crate::{Status, run};
+use crate::{Form, Status, form, run};
 use conn::{MemSink, MemSource, Text};
 use std::alloc::{AllocError, Global};
 use std::process::Abort;
@@ -18,10 +18,10 @@ const SECOND: &str =
     "arena 2\nrule 1\ncontrol 180 2 20000\nwindow 0 3600000\nwave 5000\nleaders 1\nplayer 2000 - alice\nplayer 1900 - bob\n\
 begin\n";
 
-// The program's word, a journal's head and its entries, its status and what is written.
+// The program's words, a journal's head and its entries, its status and what is written.
 type Case = [&'static str; 5];
 
-const CASES: [Case; 19] = [
+const CASES: [Case; 21] = [
     [
         "replay",
         TWO,
@@ -145,11 +145,26 @@ begin\n0 0 enter 0\n0 0 enter 1\n1000 0 wave 2 0-1\nend\n",
         "line 12: PairsDiffer\n",
     ],
     ["replay ", TWO, "end\n", "BadWords", USAGE],
+    [
+        "gen 0 2",
+        "",
+        "",
+        "Done",
+        "1 p1 1468 4 1125 4\n2 p0 1000 2 1343 4\ngames 4 entries 34\n",
+    ],
+    [
+        "serve setup.json 8080 4 journal.txt",
+        "",
+        "",
+        "BadWords",
+        USAGE,
+    ],
 ];
 
-fn words_of(alloc: Global, words: &[&str]) -> Result<Vec<Text>, AllocError> {
+// The words of a line.
+fn words_of(alloc: Global, line: &str) -> Result<Vec<Text>, AllocError> {
     let mut texts = Vec::new(alloc);
-    for word in words {
+    for word in line.split(' ') {
         texts.push(Text::of(Vec::from_slice(alloc, word.as_bytes())?))?;
     }
     Ok(texts)
@@ -179,7 +194,7 @@ fn says<R: Abort>(
 }
 
 fn runs<R: Threads + Sync + Abort>(rt: &R, alloc: Global, case: &Case) -> Result<(), Fail> {
-    let words = words_of(alloc, &case[..1])?;
+    let words = words_of(alloc, case[0])?;
     let mut sink = MemSink::new(alloc, 1000, 50, Vec::new(alloc))?;
     let mut source = source_of(alloc, case[1], case[2], Vec::new(alloc))?;
     let status = run(rt, alloc, &words, &mut source, &mut sink);
@@ -198,11 +213,11 @@ fn each_text_has_its_status_and_what_is_written(rt: HostRuntime) -> Result<(), F
 fn hindered<R: Threads + Sync>(
     rt: &R,
     alloc: Global,
-    words: &[&str],
+    line: &str,
     read: u64,
     write: u64,
 ) -> Result<(Status, usize, usize), AllocError> {
-    let words = words_of(alloc, words)?;
+    let words = words_of(alloc, line)?;
     let mut sink = MemSink::new(alloc, 1000, 10, Vec::from_slice(alloc, &[write])?)?;
     let mut source = source_of(
         alloc,
@@ -218,24 +233,69 @@ fn hindered<R: Threads + Sync>(
 fn other_words_read_nothing_and_a_failure_is_told(rt: HostRuntime) -> Result<(), Fail> {
     let all = TWO.len() + 16;
     assert_eq!(rt;
-        hindered(&rt, rt.alloc(), &[], 0, 99)?,
+        hindered(&rt, rt.alloc(), "", 0, 99)?,
         (Status::BadWords, USAGE.len(), all)
     );
     assert_eq!(rt;
-        hindered(&rt, rt.alloc(), &["replay", "x"], 0, 99)?,
+        hindered(&rt, rt.alloc(), "replay x", 0, 99)?,
         (Status::BadWords, USAGE.len(), all)
     );
     assert_eq!(rt;
-        hindered(&rt, rt.alloc(), &["help"], 0, 2)?,
+        hindered(&rt, rt.alloc(), "help", 0, 2)?,
         (Status::WriteFault, 20, all)
     );
     assert_eq!(rt;
-        hindered(&rt, rt.alloc(), &["replay"], 0, 99)?,
+        hindered(&rt, rt.alloc(), "replay", 0, 99)?,
         (Status::ReadFault, 0, all)
     );
     assert_eq!(rt;
-        hindered(&rt, rt.alloc(), &["upgrade"], 99, 1)?,
+        hindered(&rt, rt.alloc(), "upgrade", 99, 1)?,
         (Status::WriteFault, 10, 0)
     );
+    assert_eq!(rt;
+        hindered(&rt, rt.alloc(), "gen 0 2", 0, 1)?,
+        (Status::WriteFault, 10, all)
+    );
+    Ok(())
+}
+
+#[test]
+fn words_have_their_forms(rt: HostRuntime) -> Result<(), Fail> {
+    for (line, wanted) in [
+        (
+            "serve s.json 8080 4 j.txt",
+            Some(Form::Serve {
+                port: 8080,
+                workers: 4,
+            }),
+        ),
+        (
+            "serve s.json 65535 256 j.txt",
+            Some(Form::Serve {
+                port: 65535,
+                workers: 256,
+            }),
+        ),
+        ("serve s.json 0 4 j.txt", None),
+        ("serve s.json 65536 4 j.txt", None),
+        ("serve s.json 8080 257 j.txt", None),
+        ("serve s.json 8080 04 j.txt", None),
+        ("serve s.json 8080 4", None),
+        (
+            "gen 2147483647 1000",
+            Some(Form::Gen {
+                seed: 2147483647,
+                players: 1000,
+            }),
+        ),
+        ("gen 2147483648 2", None),
+        ("gen 0 1", None),
+        ("upgrade", Some(Form::Upgrade)),
+        ("upgrade now", None),
+        ("", None),
+    ] {
+        let words = words_of(rt.alloc(), line)?;
+        assert!(rt; form(&words) == wanted, "{line}");
+    }
     Ok(())
 }

@@ -15,7 +15,7 @@ use Rattle.replay.specs.declared.replaying.Wanted.TheVariants.{Table, Upgraded, 
 use Rattle.games_text.specs.GameTexts.{games_text}
 use Rattle.table_text.specs.Table.{table}
 
--- this line of a journal's text has its first entry that is not allowed, which is not for this cause
+-- the journal's first entry that is not allowed stands on this line of its text, and this is the first cause against it
 pub record IsFirstIllegal (j : Journal) (line : ℕ) (cause : IllegalCause) : Type 0 where
   pub number : ℕ
   pub first : first_illegal j ≡ Some (number, cause)

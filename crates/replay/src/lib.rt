@@ -15,4 +15,6 @@ pub use replay_end::ReplayEnd;
 pub use replaying::{Wanted, pgn, replay, upgrade};
 
 #[cfg(test)]
+mod endless_tests;
+#[cfg(test)]
 mod tests;

@@ -5,7 +5,7 @@
 pub enum ServeEnd {
     /// The journal and the table were written.
     Done,
-    /// A write failed. Of the journal and of the table a beginning was written, and whole where its own sink did not fail.
+    /// A write failed. Of the journal and of the table a beginning was written, perhaps nothing.
     WriteFault,
     /// There was not memory enough: for the evening, and nothing was written, or for the text of the journal or of the table, which
     /// was then left out.

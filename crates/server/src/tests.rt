@@ -1,4 +1,4 @@
-//! Rows of whole evenings, and the test that workers work beside each other.
+//! Whole evenings, and the test that workers work beside each other.
 
 ghost use Rattle.std.specs.Prelude.{◌≡◌, ◌≤◌, ◌<◌, All, IfOk, length, vec_len};
 

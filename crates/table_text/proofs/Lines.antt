@@ -1,11 +1,12 @@
 -- The lines of the table, as they are put together from their pieces.
-use Rattle.std.proofs.Common.{◌≡◌, ◌+◌, ◌<◌, ℕ, ℤ, drop, map, length, get_or, Some, slice_get, List, [], ◌∷◌, ◌++◌, codes, Result, Ok, Err, OnOk, subst, sym, ap, ◌∙◌, append_assoc}
+use Rattle.std.proofs.Common.{◌≡◌, ◌+◌, ◌<◌, ℕ, ℤ, drop, take, map, length, get_or, Some, slice_get, List, [], ◌∷◌, ◌++◌, codes, Result, Ok, Err, OnOk, subst, sym, ap, ◌∙◌, append_assoc}
 use Rattle.std.specs.Bool.{if◌then◌else◌}
 use Rattle.std.specs.List.{flat_map, All}
 use Rattle.std.specs.Result.{is_ok}
 use Rattle.std.specs.Fmt.{decimal, signed_decimal}
 use Rattle.std.specs.Option.{option_map_or}
 use Rattle.std.proofs.lemmas.List.{at_drop_more, get_or-map, length-map}
+use Rattle.std.proofs.lemmas.List.Elements.{All-take}
 use Rattle.entries.specs.declared.setup.Player.{Player}
 use Rattle.ranking.specs.declared.row.Row.{Row}
 use Rattle.team_battle.specs.Teams.{IsRowOf}
@@ -71,3 +72,9 @@ pub rows_have_players : (rows table : List Row) (players all : List Player) → 
 rows_have_players rows table players all is_table is_all each k d within =
     let inside : k < length table = subst (λ (l : List Row). k < length l) is_table within in
     subst (λ (l : List Row). (get_or l k d).player < length players) (sym is_table) (subst (λ (l : List Player). (get_or table k d).player < length l) (sym is_all) (each k d inside).player)
+
+-- the same of the first ten of them
+pub first_rows_have_players : (rows table : List Row) (players all : List Player) → rows ≡ take 10 table → players ≡ all
+    → All (IsRowOf (length all)) table
+    → (k : ℕ) (d : Row) → k < length rows → (get_or rows k d).player < length players
+first_rows_have_players rows table players all is_first is_all each = rows_have_players rows (take 10 table) players all is_first is_all (All-take (IsRowOf (length all)) 10 table each)

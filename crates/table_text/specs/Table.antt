@@ -1,5 +1,5 @@
 -- The printed table.
-use Rattle.std.specs.Prelude.{ℕ, ◌+◌, List, [], ◌∷◌, ◌++◌, length, slice_get, codes}
+use Rattle.std.specs.Prelude.{ℕ, ◌+◌, List, [], ◌∷◌, ◌++◌, length, slice_get, take, codes}
 use Rattle.std.specs.List.{flat_map}
 use Rattle.std.specs.Fmt.{decimal, signed_decimal}
 use Rattle.std.specs.Option.{option_map_or}
@@ -53,3 +53,9 @@ unfoldable pub table : Setup → List Entry → List ℕ
 table s es =
     let h = history s es in
     flat_map (row_line s.players) (standings s h) ++ flat_map (team_row_line s.teams) (team_standings s h) ++ count_line (counted_games s h) (length es)
+
+-- the beginning and the end of that table: the lines of its first ten players, and the last line
+unfoldable pub summary : Setup → List Entry → List ℕ
+summary s es =
+    let h = history s es in
+    flat_map (row_line s.players) (take 10 (standings s h)) ++ count_line (counted_games s h) (length es)

@@ -1,9 +1,9 @@
-ghost use Rattle.std.specs.Prelude.{◌≡◌, ◌<◌, ◌++◌, length, All, OnOk, IfOk};
+ghost use Rattle.std.specs.Prelude.{◌≡◌, ◌<◌, ◌++◌, length, take, All, OnOk, IfOk};
 ghost use Rattle.std.specs.List.{flat_map};
 ghost use Rattle.std.specs.String.{string_bytes};
 ghost use Rattle.journal_text.specs.Lines.{line};
 ghost use Rattle.ranking.specs.declared.row.Row.{Row as RowValue};
-ghost use Rattle.table_text.specs.Table.{table, score_words, player_line, row_line, count_line};
+ghost use Rattle.table_text.specs.Table.{table, summary, score_words, player_line, row_line, count_line};
 
 use crate::team_lines::push_teams;
 use arena_core::Arena;
@@ -85,6 +85,32 @@ pub fn write_table(alloc: Global, a: &Arena) -> Result<Text, AllocError>
     let mut text = Vec::new(alloc);
     push_players(alloc, &mut text, setup.players.items(), &rows)?;
     push_teams(alloc, &mut text, setup.teams.items(), &teams)?;
+    push_counts(alloc, &mut text, u64::from(a.finished()), a.len())?;
+    Ok(Text::of(text))
+}
+
+// The first ten rows, or all where there are fewer.
+fn first_ten(rows: &[Row]) -> &[Row]
+    ensures { result.now ≡ take 10 rows.now }
+{
+    &rows[..rows.len().min(10)]
+}
+
+/// The beginning and the end of that table: the lines of its first ten players, and the number of counted games and of entries. It
+/// fails only for want of memory.
+pub fn write_summary(alloc: Global, a: &Arena) -> Result<Text, AllocError>
+    ensures { IfOk result (λ text. text ≡ summary a.now.setup a.now.entries) }
+{
+    a.shows_legal();
+    tables_of_legal_lists();
+    let rows = a.rows(alloc)?;
+    let mut text = Vec::new(alloc);
+    push_players(
+        alloc,
+        &mut text,
+        a.setup().players.items(),
+        first_ten(&rows),
+    )?;
     push_counts(alloc, &mut text, u64::from(a.finished()), a.len())?;
     Ok(Text::of(text))
 }

@@ -81,8 +81,9 @@ fn play<R: Threads + Sync>(
     play_rounds(rt, alloc, solvers, arena, numbers)
 }
 
-// The arena of a seed and so many players.
-fn played<R: Threads + Sync>(
+/// The arena of the evening of a seed, below 2,147,483,648, and of 2 to 1,000 players, which `generate` describes, played to its end.
+/// It fails only for want of memory.
+pub fn played<R: Threads + Sync>(
     rt: &R,
     alloc: Global,
     seed: u32,

@@ -1,6 +1,7 @@
 //! A large journal from a number: players with drawn ratings, and four rounds in each of which a wave pairs all who are idle and
 //! each game follows a drawn script to its end. The layer above relies on `specs/Workloads.antt`, which says the journal of each
-//! seed and number of players: `generate` gives exactly that journal, and it is legal.
+//! seed and number of players: `generate` gives exactly that journal, which is legal, and
+//! `played` the arena of it.
 #![tactic(auto)]
 
 mod drafting;
@@ -12,4 +13,4 @@ mod setup;
 #[cfg(test)]
 mod tests;
 
-pub use generating::generate;
+pub use generating::{generate, played};

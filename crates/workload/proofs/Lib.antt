@@ -7,5 +7,5 @@ mod Good
 mod Listed
 mod Onward
 mod Planned
-mod Played
+mod PlayedOut
 mod Rounded

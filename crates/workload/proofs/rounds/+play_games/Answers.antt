@@ -7,7 +7,7 @@ use Rattle.workload.specs.Rounds.{plays_from}
 use Rattle.workload.specs.Scripts.{acts, script}
 use Rattle.workload.specs.Steps.{ComesTo}
 use Rattle.workload.proofs.Drafted.{and_no_more, and_then, of_none}
-use Rattle.workload.proofs.Played.{none_left, none_played, of_each, one_played, within}
+use Rattle.workload.proofs.PlayedOut.{none_left, none_played, of_each, one_played, within}
 use Rattle.workload.proofs.rounds.+play_games.Goals as goal
 
 pub returns-in_default-clause-comes : goal.returns-in_default-clause-comes

@@ -1,7 +1,7 @@
 """The evening as it runs: three programs, what is said of them, and how all is closed."""
-import json, os, signal, subprocess, threading, time
+import json, math, os, shlex, signal, subprocess, time
 from desk import host, proxy, saved
-from desk.plain import EVENING, Trouble, say
+from desk.plain import CTRL_C, EVENING, Asked, Trouble, counted, say
 
 BEAT = 0.5  # seconds between two looks at the programs
 AGAIN = 10  # seconds within which a second Ctrl-C closes
@@ -34,8 +34,7 @@ class Evening:
     def __init__(self, setup_file, setup, seen, port, workers):
         self.setup_file, self.setup, self.seen, self.port, self.workers = setup_file.resolve(), setup, seen, port, workers
         self.children = {}  # name -> process
-        self.asked = threading.Event()  # somebody wants to close
-        self.asked_by, self.asked_at, self.tries = None, -1e9, 0
+        self.asked_at, self.tries = -math.inf, 0
         self.arena = None  # the last answer of the host on itself
 
     def check(self):
@@ -55,8 +54,7 @@ class Evening:
         self.folder = new_folder(self.setup_file.parent)
         self.so_far = self.folder / "journal-so-far.txt"
         self.host_port = proxy.free_port()
-        for number, name in ((signal.SIGINT, "Ctrl-C"), (signal.SIGTERM, "a request to end")):
-            signal.signal(number, lambda *_, name=name: self.ask_to_close(name))
+        self.asked = Asked()
         signal.signal(signal.SIGHUP, signal.SIG_IGN)  # a terminal that is closed closes no evening
         try:
             self.open(certificate, certificate_key)
@@ -86,8 +84,8 @@ class Evening:
         self.spawn("scribe", [str(EVENING / "scribe"), str(self.setup_file), str(self.host_port), str(self.so_far)])
 
     def wait_for_host(self):
-        """Until the host answers. It may be built first, which takes minutes."""
-        begun, told = time.monotonic(), False
+        """Until the host answers. It may be built first, which takes minutes: how far that is, is passed on now and then."""
+        tell_at = time.monotonic() + 3
         while True:
             try:
                 self.arena = host.ask(self.host_port, "arena")
@@ -96,11 +94,11 @@ class Evening:
                 status = self.children["host"].poll()
             if status is not None:
                 raise Trouble(f"The host did not start: it {host.ended_words(status)}.", *self.words_of_host())
-            if self.asked.is_set():
-                raise Trouble("Closed before the host answered; nothing was played.")
-            if not told and time.monotonic() - begun > 3:
-                say("Waiting for the host. Where it has to be built first, this takes some minutes.")
-                told = True
+            if self.asked.by:
+                raise Trouble("Closed before the host answered: nothing was played.")
+            if time.monotonic() > tell_at:
+                say(": ".join(["Waiting for the host, which is built first where that has to be", *self.last_words()]) + ".")
+                tell_at += 20
             time.sleep(0.1)
 
     def wait_for_nginx(self):
@@ -113,10 +111,12 @@ class Evening:
             time.sleep(0.1)
         raise Trouble(f"nginx does not serve port {self.port}; {self.folder / 'nginx/errors.txt'} has its words.")
 
+    def last_words(self):
+        """The last line, if any, that the host or the building of it wrote beside the table."""
+        return (self.folder / "host.txt").read_text(encoding="utf-8", errors="replace").splitlines()[-1:]
+
     def words_of_host(self):
-        """The last lines that the host, or the building of it, wrote beside the table."""
-        lines = (self.folder / "host.txt").read_text(encoding="utf-8", errors="replace").splitlines()
-        return [f"It said: {lines[-1]}" + (f" (all in {self.folder / 'host.txt'})" if len(lines) > 1 else "")] if lines else []
+        return [f"It said: {line} ({self.folder / 'host.txt'} has all of it)" for line in self.last_words()]
 
     def greet(self):
         a = self.arena
@@ -127,17 +127,12 @@ class Evening:
 
     # ---- watching
 
-    def ask_to_close(self, name):
-        self.asked_by = name
-        self.asked.set()
-
     def watch(self):
         """Until the host has ended or is to be closed; its status, or None where it still runs."""
         while True:
-            if self.asked.wait(BEAT):
-                self.asked.clear()
-                if self.closing():
-                    return None
+            time.sleep(BEAT)
+            if self.asked.by and self.closing():
+                return None
             status = self.children["host"].poll()
             if status is not None:
                 return status
@@ -159,30 +154,30 @@ class Evening:
                 say(f"{name} could not be started: {e.strerror}.")
         else:
             del self.children[name]
-            say(f"{how} once more and is left so. The host goes on; {self.folder} has what was written.")
+            say(f"{how} once more and is left so, but the host goes on, and {self.folder} has what was written.")
 
     def closing(self):
         """Whether to close now: at a request to end at once, at Ctrl-C the second time, when it is known what is lost."""
-        if self.asked_by != "Ctrl-C" or time.monotonic() - self.asked_at < AGAIN:
+        if self.asked.by != CTRL_C or time.monotonic() - self.asked_at < AGAIN:
             return True
-        self.asked_at = time.monotonic()
+        self.asked.by, self.asked_at = None, time.monotonic()
         try:
             self.arena = host.ask(self.host_port, "arena", 2)
             games = self.arena["running"]
-            losing = f"{games} game{'' if games == 1 else 's'} would stay unfinished" if games else "no game runs"
+            losing = f"{counted(games, 'game')} would stay unfinished" if games else "no game runs"
             more = "" if self.arena["state"] == "over" else f", and the arena goes on for {span((self.arena['ends'] - self.arena['time']) / 1000)}"
         except host.Silent:
             losing, more = "the host does not answer", ""
-        say(f"Not closed: {losing}{more}.", self.whereabouts(), f"Ctrl-C again within {AGAIN} seconds closes; otherwise the evening goes on.")
+        say(f"Not closed: {losing}{more}.", *self.whereabouts(), f"Ctrl-C again within {AGAIN} seconds closes; otherwise the evening goes on.")
         return False
 
     def whereabouts(self):
-        """What stands saved of a journal that the host has not written."""
+        """What stands saved of a journal that the host has not written, in sentences."""
         if not self.so_far.exists():
-            return "Of the journal nothing is saved: the host writes it at its end alone."
+            return ["Nothing of the journal is saved, since the host writes it at its end alone."]
         n = saved.entries_in(self.so_far)
-        return (f"The host writes its journal at its end alone. So far {n} entr{'y is' if n == 1 else 'ies are'} saved in {self.so_far}; "
-                f"their table: {EVENING / 'table'} {self.so_far}")
+        return [f"Of the journal, which the host writes at its end alone, {counted(n, 'entry is', 'entries are')} saved in {self.so_far}.",
+                f"Their table: {shlex.join([str(EVENING / 'table'), str(self.so_far)])}"]
 
     # ---- the end
 
@@ -190,57 +185,62 @@ class Evening:
         """Says what is left of the evening, and keeps the pages up for the final table."""
         self.stop("scribe")
         if status == 0:
-            self.write_games(self.folder / "journal.txt")
-            say("The evening is over.", *(f"  {what:8} {self.folder / name}" for what, name in
-                                          (("journal", "journal.txt"), ("table", "table.txt"), ("games", "games.pgn")) if (self.folder / name).exists()))
+            self.write("games.pgn", "pgn", self.folder / "journal.txt")
+            say("The evening is over.", *(f"  {name.split('.')[0]:8} {self.folder / name}" for name in ("journal.txt", "table.txt", "games.pgn")
+                                          if (self.folder / name).exists()))
         else:
             self.end_early(status)
         if status is not None and linger != 0:
             say("The pages show the table until Ctrl-C." if linger is None else f"The pages show the table for {linger:g} seconds.")
-            self.asked.clear()
-            self.asked.wait(linger)
+            self.linger(math.inf if linger is None else linger)
         return 0 if status == 0 else 1
+
+    def linger(self, seconds):
+        """Keeps the pages up for so long, or until somebody wants to close. A Ctrl-C from before was meant for the evening."""
+        if self.asked.by == CTRL_C:
+            self.asked.by = None
+        until = time.monotonic() + seconds
+        while not self.asked.by and time.monotonic() < until:
+            time.sleep(BEAT)
+            self.mend("nginx", self.open_nginx)
 
     def end_early(self, status):
         """The host ended on its own, or is closed now: the table comes from what the scribe saved."""
         if status is None:
-            say(f"Closed by {self.asked_by}. What ran is lost.")
+            say(f"Closed by {self.asked.by}: what ran is lost.")
             self.stop("host")
         else:
-            say(f"{time.strftime('%H:%M:%S')} The host has ended before the arena was over: it {host.ended_words(status)}.")
-        if (self.folder / "journal.txt").exists() and not (self.folder / "journal.txt").stat().st_size:
-            (self.folder / "journal.txt").unlink()  # the host's own, begun and never written
-        say(self.whereabouts())
-        if not self.so_far.exists():
-            return
-        out, bad = host.told_by("replay", saved.closed(self.so_far))
-        if bad:
-            say(f"A table of it could not be made: the host's program {host.ended_words(bad)}.")
+            say(f"{time.strftime('%H:%M:%S')} The host has ended too early: it {host.ended_words(status)}.", *(self.words_of_host() if status > 0 else []))
+        journal = self.folder / "journal.txt"
+        if journal.exists() and not journal.stat().st_size:
+            journal.unlink()  # begun and never written
+        if saved.is_whole(journal):
+            say(f"Its journal is whole and stands in {journal}.")
         else:
-            (self.folder / "table.txt").write_bytes(out)
+            say(*self.whereabouts())
+            journal = self.so_far
+        if journal.exists() and self.write("table.txt", "replay", journal):
             say(f"Its table stands in {self.folder / 'table.txt'}.")
-        self.write_games(self.so_far)
+            self.write("games.pgn", "pgn", journal)
 
-    def write_games(self, journal):
-        try:
-            out, status = host.told_by("pgn", saved.closed(journal))
-        except Trouble as trouble:
-            say(*trouble.sentences)
-            return
+    def write(self, name, word, journal):
+        """Writes what the host's program answers to a word and a journal; whether it did."""
+        out, status = host.told_by(word, saved.closed(journal))
         if status:
-            say(f"The games were not written: the host's program {host.ended_words(status)} (word `pgn`).")
+            say(f"{name} could not be made: the host's program {host.ended_words(status)}.")
         else:
-            (self.folder / "games.pgn").write_bytes(out)
+            (self.folder / name).write_bytes(out)
+        return status == 0
 
     def stop(self, name):
-        """Ends a child and waits for it."""
+        """Ends a child, with all that it started for itself as the building of the host, and waits for it."""
         child = self.children.get(name)
         if child and child.poll() is None:
-            child.send_signal(signal.SIGTERM)
+            os.killpg(child.pid, signal.SIGINT)
             try:
                 child.wait(10)
             except subprocess.TimeoutExpired:
-                child.kill()
+                os.killpg(child.pid, signal.SIGKILL)
                 child.wait()
 
     def close(self):

@@ -1,5 +1,5 @@
 """How the programs speak: plain sentences, and files that nothing overwrites unasked."""
-import json, os, pathlib, sys
+import json, os, pathlib, signal, sys
 
 EVENING = pathlib.Path(__file__).resolve().parent.parent
 
@@ -20,14 +20,39 @@ def say(*sentences):
         pass
 
 
+def counted(number, one, more=None):
+    """1 player, 2 players, 2 entries."""
+    return f"{number} {one if number == 1 else more or one + 's'}"
+
+
+CTRL_C = "Ctrl-C"
+ENDING = {signal.SIGINT: CTRL_C, signal.SIGTERM: "a request to end"}
+
+
+class Asked:
+    """Notes that somebody asks to end, and by what. A signal comes between any two steps of a program, also where it holds a
+    lock: so nothing is locked or told at once, and the program looks at `by` from beat to beat."""
+
+    def __init__(self):
+        self.by = None
+        for number in ENDING:
+            signal.signal(number, self.note)
+
+    def note(self, number, _):
+        self.by = ENDING[number]
+
+
 def guarded(main):
-    """Runs a program's main and ends with its status; Trouble is told in its sentences and is status 1."""
+    """Runs a program's main and ends with its status; trouble is told in its sentences and is status 1."""
     name = pathlib.Path(sys.argv[0]).name
     try:
         sys.exit(main() or 0)
     except Trouble as trouble:
         for sentence in trouble.sentences:
             print(f"{name}: {sentence}", file=sys.stderr)
+        sys.exit(1)
+    except OSError as e:
+        print(f"{name}: {e.filename or 'a file'} could not be read or written: {e.strerror}.", file=sys.stderr)
         sys.exit(1)
 
 
@@ -55,8 +80,8 @@ def write_files(folder, files, overwrite):
     folder = pathlib.Path(folder)
     there = [name for name, _, _ in files if (folder / name).exists()]
     if there and not overwrite:
-        raise Trouble(f"{' and '.join(there)} in {folder} would be overwritten. "
-                      "Give --overwrite if that is meant (old slips are then worth nothing), or another folder with --into.")
+        raise Trouble(f"{' and '.join(there)} in {folder} would be overwritten: "
+                      "give --overwrite if that is meant (old slips are then worth nothing), or another folder with --into.")
     try:
         folder.mkdir(parents=True, exist_ok=True)
         for name, text, secret in files:

@@ -23,12 +23,12 @@ def read_players(path, unrated=None):
 def text_of(path):
     data = read_file(path)
     if data[:2] in (b"\xff\xfe", b"\xfe\xff"):
-        raise Trouble(f"{path} is UTF-16. Please save the list as CSV in UTF-8.")
+        raise Trouble(f"{path} is UTF-16: please save the list as CSV in UTF-8.")
     try:
         return data.decode("utf-8-sig")
     except UnicodeDecodeError as e:
         line = data.count(b"\n", 0, e.start) + 1
-        raise Trouble(f"{path}, line {line}: this is not UTF-8. Please save the list as CSV in UTF-8.") from e
+        raise Trouble(f"{path}, line {line}: this is not UTF-8: please save the list as CSV in UTF-8.") from e
 
 
 def rows_of(path, text):
@@ -64,7 +64,7 @@ def columns_of(path, rows):
         return found, rows[1:], [f"Columns that are passed over: {', '.join(extra)}."] if extra else []
     if len(head) > 1 and re.fullmatch(r"\d+", head[1]):
         return {"name": 0, "rating": 1, "team": 2}, rows, ["No header: the columns are read as name, rating, team."]
-    raise Trouble(f"{path}, line {line}: no column is called name. The header may have name, rating and team.")
+    raise Trouble(f"{path}, line {line}: no column is called name; the header has name, rating and, where there are any, team.")
 
 
 class Reader:
@@ -88,11 +88,11 @@ class Reader:
         if not written:
             return self.fault(line, "there is no name.")
         if written in self.lines:
-            return self.fault(line, f"{written} stands on line {self.lines[written]} already. Two people need two names.")
+            return self.fault(line, f"{written} stands on line {self.lines[written]} already, and two people need two names.")
         self.lines[written] = line
         name = names.allowed(written)
         if not name:
-            return self.fault(line, f"{written} cannot be written in the letters A to Z. Please write the name in them.")
+            return self.fault(line, f"{written} cannot be written in the letters A to Z; please write the name in them.")
         name = names.apart(name, {p["name"] for p in self.players})
         if name != written:
             self.said.append(f"{written} plays as {name}.")
@@ -102,7 +102,7 @@ class Reader:
         text = self.cell(cells, "rating")
         if text in ("", "-", "0"):
             if self.unrated is None:
-                self.fault(line, "there is no rating. Give --unrated N to set all players without one at N.")
+                self.fault(line, "there is no rating (--unrated N sets all players without one at N).")
             return self.unrated
         if not re.fullmatch(r"\d{1,4}", text) or not LEAST_RATING <= int(text) <= MOST_RATING:
             self.fault(line, f"the rating {text} is no whole number from {LEAST_RATING} to {MOST_RATING}.")

@@ -21,8 +21,8 @@ def must_be_free(port):
             s.bind(("", port))
         except OSError as e:
             if e.errno == errno.EACCES:
-                raise Trouble(f"Port {port} is for the administrator alone. Ports from 1024 on are free to all; 8080 is the usual one.") from e
-            raise Trouble(f"Port {port} is in use by another program. End it, or prepare the evening with another port in --address.") from e
+                raise Trouble(f"Port {port} is for the administrator alone, but those from 1024 on are for all, and 8080 is the usual one.") from e
+            raise Trouble(f"Port {port} is in use by another program: end that one, or prepare the evening with another port in --address.") from e
 
 
 def free_port():

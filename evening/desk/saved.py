@@ -16,7 +16,7 @@ class Saved:
         there = self.path.exists()
         text = whole_lines(read_file(self.path)) if there else ""
         if there and not text.startswith(head) and not head.startswith(text):
-            raise Trouble(f"{path} was saved of another setup. Give the scribe another file.")
+            raise Trouble(f"{path} was saved of another setup; give the scribe another file.")
         try:
             self.out, self.size = os.open(self.path, os.O_WRONLY | os.O_CREAT, 0o600), len(text)
             os.ftruncate(self.out, self.size)
@@ -68,22 +68,25 @@ def plain_entry(entry):
     return PAIR.sub("", entry)
 
 
-def with_pairs(entries, first, pairs):
-    """These entries with the pairs of their waves behind them. `pairs` are those of all games that they began, the first of
-    which has the number `first`. Of several waves each game is of the last one before the first act in it."""
+def with_pairs(entries, first, pairs, fits):
+    """These entries with the pairs of their waves behind them. `pairs` are those of all games that they began, the first of which
+    has the number `first`. It is not told which of several waves began how many: each but the last takes the fewest with which
+    the entries up to it fit, and no fewer than have been acted in before the next."""
+    out, given = list(entries), 0
     waves = [i for i, e in enumerate(entries) if e.split(" ")[2] == "wave"]
-    acts = {}  # game -> its first act's place
-    for i, e in enumerate(entries):
-        words = e.split(" ")
-        if words[2] == "act":
-            acts.setdefault(int(words[4]), i)
-    out, wave = list(entries), len(waves) - 1
-    for k in range(len(pairs) - 1, -1, -1):
-        while acts.get(first + k, len(entries)) < waves[wave]:
-            wave -= 1
-        i = waves[wave]
-        out[i] = f"{entries[i]} {pairs[k]}{out[i][len(entries[i]):]}"
+    for k, i in enumerate(waves, 1):
+        most = len(pairs) - given - (len(waves) - k)
+        least = max(1, games_acted_in(entries[:waves[k]], first) - given) if k < len(waves) else most
+        lists = [" ".join([entries[i], *pairs[given:given + n]]) for n in range(least, most + 1)]
+        out[i] = next((wave for wave in lists[:-1] if fits(out[:i] + [wave])), lists[-1])
+        given += len(PAIR.findall(out[i]))
     return out
+
+
+def games_acted_in(entries, first):
+    """How many games from number `first` on have begun by the last of these entries, as far as their acts tell."""
+    acts = (e.split(" ") for e in entries)
+    return max((int(words[4]) + 1 - first for words in acts if words[2] == "act"), default=0)
 
 
 def whole_lines(data):
@@ -94,12 +97,17 @@ def whole_lines(data):
         raise Trouble("This is no journal: it has bytes that no journal has.") from e
 
 
-def closed(path):
-    """The text of a journal from what was saved, or of a journal that is whole."""
+def closed(path, more=()):
+    """The text of a journal from what was saved and these entries behind it, or of a journal that is whole."""
     text = whole_lines(read_file(path))
     if not text.startswith("arena "):
         raise Trouble(f"{path} is no journal: its first line is not `arena` and a version.")
-    return (text if text.endswith("\nend\n") else text + "end\n").encode("ascii")
+    return (text if text.endswith("\nend\n") else text + "".join(e + "\n" for e in more) + "end\n").encode("ascii")
+
+
+def is_whole(path):
+    """Whether a journal stands there with its last line."""
+    return path.exists() and read_file(path).endswith(b"\nend\n")
 
 
 def entries_in(path):

@@ -20,8 +20,8 @@ h2 {{ font-size: 13.5pt; line-height: 1.2; overflow-wrap: anywhere; }}
 .keep {{ color: #444; font-size: 8pt; margin-top: 2mm; }}
 @media print {{ .word {{ display: none; }} body {{ padding: 0; }} }}
 </style></head><body>
-<p class="word"><b>{title}.</b> Print this page, cut along the lines, and give each player the own slip. Who has a slip plays as
-its player: keep this file to yourself.</p>
+<p class="word"><b>{title}.</b> Print this page, cut along the lines, and give each player their own slip. Who has a slip plays
+as its player: keep this file to yourself.</p>
 <main>
 {slips}
 </main></body></html>

@@ -67,7 +67,7 @@ def fools_mate(alice, bob, hall):
     black.until_text("#points", "2")
     black.until_text("#rank", "1st of 2")
     white.until_text("#rank", "2nd of 2")
-    assert white.moves() == "f3 e5 g4 Qh4#"
+    white.until_moves("f3 e5 g4 Qh4#")
     assert white.js("return document.querySelector('.sq.check').dataset.square") == "e1"
     assert "You lost" in white.text("#say")
     black.shot("04-won")
@@ -122,8 +122,7 @@ def second_game(st, alice, bob, hall):
     black.until_text("#seat", "paused after this game")
     white.use().refresh()  # a page that is opened again finds its game and its moves
     white.until_view(view="game", live="yes")
-    white.until("the moves again", "return document.querySelectorAll('#moves li').length === 2")
-    assert white.moves() == "e4 e5 Nf3", white.moves()
+    white.until_moves("e4 e5 Nf3")
     black.our_turn()
     black.click("#resign")
     black.click("#ask-yes")
@@ -153,7 +152,7 @@ def promotion(st, alice, bob):
     st.play(st.api("GET", "me", "alice")[1]["game"], [names[white], names[black]], "a2a4 b7b5 a4b5 a7a6 b5a6 c8b7 a6b7 b8c6")
     white.until("the position", "return document.querySelector('[data-square=\"c6\"] .man') && document.querySelector('#us.turn')")
     white.our_turn()
-    white.until("all moves, by the journal", "return [...document.querySelectorAll('#moves span')].map((e) => e.textContent).join(' ') === 'a4 b5 axb5 a6 bxa6 Bb7 axb7 Nc6'")
+    white.until_moves("a4 b5 axb5 a6 bxa6 Bb7 axb7 Nc6")
     white.square("b7").click()
     white.until("targets", "return document.querySelector('[data-square=\"a8\"].target')")
     white.square("a8").click()
@@ -201,7 +200,7 @@ def move_in_the_dark(st, alice, bob):
     white.our_turn()
     st.host.send_signal(signal.SIGSTOP)
     white.move("d2d4")
-    white.until_text("#link", "Your move is sent again")
+    white.until_text("#link", "your move is sent again")
     st.host.send_signal(signal.SIGCONT)
     black.until("d4", "return document.querySelector('[data-square=\"d4\"].last .man') && document.querySelector('#us.turn')")
     white.until("the banner gone", "return document.querySelector('#link').hidden")

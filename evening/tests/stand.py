@@ -56,9 +56,9 @@ class Stand:
             shutil.rmtree(self.dir, ignore_errors=True)
 
     def start_host(self):
-        with open(self.dir / "table.txt", "wb") as table:
+        with open(self.dir / "table.txt", "wb") as table, open(self.dir / "host.txt", "wb") as words:
             self.host = subprocess.Popen([host.program(), "serve", str(self.dir / "setup.json"), str(self.host_port),
-                                          str(self.workers), str(self.dir / "journal.txt")], stdout=table)
+                                          str(self.workers), str(self.dir / "journal.txt")], stdout=table, stderr=words)
         self.wait(f"http://127.0.0.1:{self.host_port}/api/arena")
 
     def stop_host(self):

@@ -139,5 +139,6 @@ class Tab:
     def keys(self, *words):
         ActionChains(self.use()).send_keys(*words).perform()
 
-    def moves(self):
-        return self.js("return [...document.querySelectorAll('#moves span')].map((e) => e.textContent).join(' ').trim()")
+    def until_moves(self, texts):
+        """Waits until the list has these moves: those that the page did not hear come from the journal."""
+        self.until("the moves " + texts, "return [...document.querySelectorAll('#moves span')].map((e) => e.textContent).join(' ').trim() === arguments[0]", texts)

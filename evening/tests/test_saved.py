@@ -70,17 +70,31 @@ class Saving(unittest.TestCase):
         self.assertEqual(self.file.read_bytes(), before)
 
     def test_waves_with_their_pairs(self):
-        """Under rule 2 each wave has its pairs: of two waves in one look, by the first acts in their games."""
+        """Under rule 2 each wave has its pairs."""
         self.setup["rule"] = 2
         file = self.open()
         new = ["0 0 wave 4", "5 1 act 2 7 resign", "9 0 wave 6", "9 0 tick"]
-        file.add(saved.with_pairs(["0 0 enter 0"], 6, []))
-        file.add(saved.with_pairs(new, 6, ["0-1", "2-3", "0-1", "3-2"]))
+        file.add(saved.with_pairs(["0 0 enter 0"], 6, [], None))
+        file.add(saved.with_pairs(new, 6, ["0-1", "2-3", "0-1", "3-2"], lambda entries: True))
         self.assertTrue(self.file.read_text().startswith("arena 2\nrule 2\ncontrol"))
         self.assertTrue(self.file.read_text().endswith("begin\n0 0 enter 0\n0 0 wave 4 0-1 2-3\n5 1 act 2 7 resign\n9 0 wave 6 0-1 3-2\n9 0 tick\n"))
         self.file.write_bytes(self.file.read_bytes()[:-len("9 0 tick\n")])
         again = self.open()
         self.assertEqual((again.length, again.games, again.last), (4, 4, "9 0 wave 6"))
+
+    def test_several_waves_in_one_look(self):
+        """Who began which games is settled by what fits, and each wave has one at least."""
+        new, pairs = ["0 0 wave 4", "5 1 act 2 1 resign", "9 0 wave 6", "20 0 wave 8"], ["0-1", "2-3", "4-5", "0-2", "1-3", "4-6"]
+        for right in [(2, 1, 3), (2, 2, 2), (2, 3, 1), (3, 1, 2), (3, 2, 1), (4, 1, 1)]:
+            cuts = [0, right[0], right[0] + right[1], 6]
+            waves = [" ".join([w] + pairs[a:b]) for w, a, b in zip([new[0], new[2], new[3]], cuts, cuts[1:])]
+            tried = []
+
+            def fits(entries):
+                tried.append(entries[-1])
+                return entries[-1] in waves
+            self.assertEqual(saved.with_pairs(new, 0, pairs, fits), [waves[0], new[1], waves[1], waves[2]])
+            self.assertNotIn("0 0 wave 4 0-1", tried, "game 1 was acted in before the second wave")
 
     def test_the_table_of_what_was_saved(self):
         self.take(self.open(), ENTRIES)

@@ -1,10 +1,18 @@
 """Whole evenings by evening/start: to the end, with the host killed in mid-game, closed early, and not begun at all."""
-import json, os, pathlib, re, signal, socket, subprocess, sys, tempfile, threading, time, unittest, urllib.request
-from stand import HERE, Stand, key_of, setup_of
+import json, os, pathlib, re, shlex, shutil, signal, socket, ssl, subprocess, sys, tempfile, threading, time, unittest, urllib.request
+from stand import HERE, Stand, children_of, key_of, setup_of
 from desk import proxy, setups
 
 START = str(HERE.parent / "start")
 PAIR = [("alice", 2000), ("bob", 1900)]
+
+
+def is_alive(pid):
+    """Whether this process runs: one that has ended may wait to be seen by its parent."""
+    try:
+        return pathlib.Path(f"/proc/{pid}/stat").read_text().rsplit(")", 1)[1].split()[0] != "Z"
+    except FileNotFoundError:
+        return False
 
 
 class Run:
@@ -51,9 +59,9 @@ class Run:
 
     def child(self, word):
         """The process id of a child of start."""
-        for pid in pathlib.Path(f"/proc/{self.process.pid}/task/{self.process.pid}/children").read_text().split():
+        for pid in children_of(self.process.pid):
             if word in pathlib.Path(f"/proc/{pid}/cmdline").read_bytes().decode():
-                return int(pid)
+                return pid
         raise AssertionError(word)
 
     def end(self, limit=30):
@@ -92,11 +100,12 @@ class Evenings(unittest.TestCase):
         game = run.begin_game()
         moves = [("white", "f2f3"), ("black", "e7e5"), ("white", "g2g4"), ("black", "d8h4")]
         sides = run.ask("GET", f"game/{game}", "alice")
+        for name, _ in PAIR:  # before the game's end, or a wave may come in between
+            run.ask("POST", "pause", name)
         for side, word in moves:
             run.ask("POST", f"game/{game}/move/{word}", sides[side])
-        for name, _ in PAIR:
-            run.ask("POST", "pause", name)
         run.until("The pages show the table until Ctrl-C.")
+        self.assertNotIn("scribe", "".join(run.said), "nothing went wrong")
         table = (run.played / "table.txt").read_text()
         self.assertTrue(table.startswith(f"1 {sides['black']} "), table)
         self.assertEqual(run.get("/table.txt"), table)
@@ -112,15 +121,18 @@ class Evenings(unittest.TestCase):
         everything = "".join(run.said) + "".join(f.read_text() for f in run.played.rglob("*.*") if f.is_file())
         self.assertFalse(any(key_of(name) in everything for name, _ in PAIR), "no key is told anywhere")
 
-    def test_the_host_is_killed_in_mid_game(self):
+    def test_the_host_is_silent_and_then_killed_in_mid_game(self):
         run = self.start(setup_of(PAIR, minutes=10), "--linger", "3")
         run.until("Ctrl-C says")
         game = run.begin_game()
         sides = run.ask("GET", f"game/{game}", "alice")
         run.ask("POST", f"game/{game}/move/e2e4", sides["white"])
-        time.sleep(2.5)
+        os.kill(run.child("serve"), signal.SIGSTOP)
+        run.until("scribe: no answer from the host; ")
+        os.kill(run.child("serve"), signal.SIGCONT)
+        run.until("scribe: all is well again; 4 entries are saved.")
         os.kill(run.child("serve"), signal.SIGKILL)
-        run.until("The host has ended before the arena was over: it was ended by signal 9.")
+        run.until("The host has ended too early: it was ended by signal 9.")
         run.until("Its table stands in")
         self.assertIn("games 0 entries 4", run.get("/table.txt"))
         self.assertTrue((run.played / "journal-so-far.txt").read_text().endswith("move e2e4\n"))
@@ -136,7 +148,7 @@ class Evenings(unittest.TestCase):
         time.sleep(2)
         run.process.send_signal(signal.SIGINT)
         run.until("Not closed: 1 game would stay unfinished")
-        run.until("3 entries are saved in")
+        run.until("3 entries are saved in ")
         self.assertEqual(run.ask("GET", "me", "alice")["seat"], "playing")
         run.process.send_signal(signal.SIGINT)
         run.until("Closed by Ctrl-C")
@@ -144,6 +156,49 @@ class Evenings(unittest.TestCase):
         self.assertEqual(run.end(), 1)
         with self.assertRaises(OSError):
             run.get("/")
+
+    def script(self, text):
+        """A program of the host's words for one test."""
+        path = self.dir / "host.sh"
+        path.write_text("#!/bin/sh\n" + text)
+        path.chmod(0o755)
+        return {"ARENA_HOST": str(path)}
+
+    def test_a_host_that_could_not_write_its_table(self):
+        """Its journal is whole: table and games come from there, and not from what the scribe saved."""
+        host = shlex.quote(os.environ["ARENA_HOST"])
+        run = self.start(setup_of(PAIR, ends=3000), "--linger", "0", env=self.script(
+            f'if [ "$1" = serve ]; then {host} "$@" >/dev/null; exit 6; fi\nexec {host} "$@"\n'))
+        run.until("Ctrl-C says")
+        run.ask("POST", "enter", "alice")
+        run.until("The host has ended too early: it could not write.")
+        run.until(f"Its journal is whole and stands in {run.played / 'journal.txt'}.")
+        self.assertEqual(run.end(), 1)
+        self.assertEqual((run.played / "table.txt").read_text(), "1 alice 2000 0 0 0\ngames 0 entries 1\n")
+
+    def test_closed_while_the_host_is_built(self):
+        """What builds the host is ended too."""
+        run = self.start(setup_of(PAIR), env=self.script("echo 3 of 40 crates >&2\nsleep 1000\n"))
+        run.until("Waiting for the host, which is built first where that has to be: 3 of 40 crates.")
+        builder = children_of(run.child("serve"))
+        run.process.send_signal(signal.SIGINT)
+        self.assertEqual(run.end(), 1)
+        self.assertIn("Closed before the host answered: nothing was played.", "".join(run.said))
+        self.assertEqual([pid for pid in builder if is_alive(pid)], [])
+
+    def test_over_https(self):
+        if not shutil.which("openssl"):
+            self.skipTest("openssl is missing")
+        cert, key = self.dir / "cert.pem", self.dir / "key.pem"
+        subprocess.run(["openssl", "req", "-x509", "-newkey", "ec", "-pkeyopt", "ec_paramgen_curve:prime256v1", "-nodes", "-days", "1",
+                        "-subj", "/CN=127.0.0.1", "-addext", "subjectAltName=IP:127.0.0.1", "-keyout", key, "-out", cert], check=True, capture_output=True)
+        run = self.start(setup_of(PAIR), "--certificate", str(cert), "--certificate-key", str(key))
+        run.until("Ctrl-C says")
+        self.assertIn("The links of the slips begin with http:", "".join(run.said))
+        trusting = ssl.create_default_context(cafile=str(cert))
+        with urllib.request.urlopen(f"https://127.0.0.1:{run.port}/api/arena", timeout=5, context=trusting) as answer:
+            self.assertEqual(answer.headers["Strict-Transport-Security"], "max-age=86400")
+            self.assertEqual(json.load(answer)["begun"], 0)
 
     def test_what_cannot_start_is_said_in_a_sentence(self):
         good = setup_of(PAIR)

@@ -177,7 +177,7 @@ function ticking() {
 async function onLink(misses) {
   arenaHeard = -Infinity;
   $('link').hidden = misses < 2;
-  $('link').textContent = 'No answer from the host. Trying again …';
+  $('link').textContent = 'No answer from the host: trying again …';
   if (misses === 0) {
     over = null;
     tables.final = null;

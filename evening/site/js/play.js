@@ -20,7 +20,7 @@ async function act(path, where, then) {
   try {
     then(await ask('POST', path, page.key));
   } catch (e) {
-    where.textContent = e instanceof Refused ? refusal(e.code) : 'The hall did not answer. Please try again.';
+    where.textContent = e instanceof Refused ? refusal(e.code) : 'The hall did not answer: please try again.';
     if (!(e instanceof Refused) && !(e instanceof Away)) console.error(e);
   }
   page.busy = false;
@@ -87,7 +87,7 @@ async function onLink(misses) {
   if (page.key !== null && await hostHasClosed()) return;
   if (performance.now() - answered > 3500) {
     show.banner(ended() ? 'The arena is over and the host has closed.'
-      : page.sending ? 'No answer from the hall. Your move is sent again until it gets through.' : 'No answer from the hall. Trying again …');
+      : page.sending ? 'No answer from the hall: your move is sent again until it gets through.' : 'No answer from the hall: trying again …');
   }
 }
 
@@ -96,14 +96,14 @@ async function hostHasClosed() {
   page.over ??= await finalTable();
   if (!page.over) return false;
   if (page.me === null) {
-    show.banner('The arena is over and the host has closed. The final table is on the hall screen.');
+    show.banner('The arena is over and the host has closed; the final table is on the hall screen.');
     return true;
   }
   const own = page.over.rows.find((r) => r.name === page.me.name);
   if (own) page.me = { ...page.me, ...own };
   if (live()) page.game = null; // its end was not heard; it does not count unless it came in time
   show.table(page.over.rows.slice(own ? own.rank - own.rank % 10 : 0).slice(0, 10));
-  show.banner(ended() ? 'The arena is over and the host has closed. This is the final table.' : 'The host has closed before the time. This is its table.');
+  show.banner(ended() ? 'The arena is over and the host has closed; this is the final table.' : 'The host has closed before the time; this is its table.');
   show.draw();
   return true;
 }
@@ -166,7 +166,7 @@ onSubmit('type-form', playTyped);
 onClick('enter', () => seat('enter'));
 onClick('pause', () => seat('pause'));
 onClick('leave', async () => {
-  if (await show.confirmed('Leave for good? You cannot come back into this arena. Your points stay.', 'Leave')) seat('leave');
+  if (await show.confirmed('Leave this arena for good, with the points that you have?', 'Leave')) seat('leave');
 });
 onClick('draw', () => inGame('draw/offer'));
 onClick('accept', () => inGame('draw/accept'));
@@ -182,7 +182,7 @@ onClick('next', () => {
   poller.kick();
 });
 onClick('forget', async () => {
-  if (!live() || await show.confirmed('You are in the middle of a game. Forget your key in this tab?', 'Forget')) standUp('');
+  if (!live() || await show.confirmed('Forget your key in this tab, in the middle of a game?', 'Forget')) standUp('');
 });
 addEventListener('hashchange', () => {
   const key = keyFromLink();

@@ -71,45 +71,49 @@ export function inCheck(pos, side = pos.turn) {
   return attacked(pos.cells, pos.cells.indexOf(side === 'white' ? 'K' : 'k'), other(side));
 }
 
+// Moves by the ways of the pieces alone: a king may be left in check.
 function candidates(pos) {
-  const { cells, turn } = pos;
   const out = [];
-  const add = (from, to) => {
-    if (cells[from].toLowerCase() === 'p' && (to >> 3 === 0 || to >> 3 === 7)) {
-      for (const promo of 'qrbn') out.push({ from, to, promo });
-    } else out.push({ from, to, promo: '' });
-  };
-  for (let from = 0; from < 64; from++) {
-    if (sideOf(cells[from]) !== turn) continue;
-    const kind = cells[from].toLowerCase();
-    if (kind === 'p') {
-      const up = turn === 'white' ? 1 : -1;
-      const one = step(from, 0, up);
-      if (one >= 0 && cells[one] === '') {
-        add(from, one);
-        const two = step(one, 0, up);
-        if (from >> 3 === (turn === 'white' ? 1 : 6) && cells[two] === '') add(from, two);
-      }
-      for (const df of [-1, 1]) {
-        const to = step(from, df, up);
-        if (to >= 0 && (sideOf(cells[to]) === other(turn) || to === pos.ep)) add(from, to);
-      }
-      continue;
+  pos.cells.forEach((piece, from) => {
+    if (sideOf(piece) !== pos.turn) return;
+    const kind = piece.toLowerCase();
+    const ends = kind === 'p' ? pawnEnds(pos, from) : pieceEnds(pos, from, kind);
+    if (kind === 'k') ends.push(...castlingEnds(pos, from));
+    for (const to of ends) {
+      const promos = kind === 'p' && (to >> 3 === 0 || to >> 3 === 7) ? [...'qrbn'] : [''];
+      out.push(...promos.map((promo) => ({ from, to, promo })));
     }
-    const ways = kind === 'n' ? KNIGHT : kind === 'b' ? DIAGONAL : kind === 'r' ? STRAIGHT : ALL;
-    for (const [df, dr] of ways) {
-      for (let to = step(from, df, dr); to >= 0; to = step(to, df, dr)) {
-        if (sideOf(cells[to]) !== turn) add(from, to);
-        if (cells[to] !== '' || kind === 'n' || kind === 'k') break;
-      }
-    }
-    if (kind !== 'k' || inCheck(pos)) continue;
-    const [short, long] = turn === 'white' ? 'KQ' : 'kq';
-    const safe = (to) => cells[to] === '' && !attacked(cells, to, other(turn));
-    if (pos.rights.includes(short) && safe(from + 1) && safe(from + 2)) add(from, from + 2);
-    if (pos.rights.includes(long) && cells[from - 3] === '' && safe(from - 1) && safe(from - 2)) add(from, from - 2);
-  }
+  });
   return out;
+}
+
+function pawnEnds({ cells, turn, ep }, from) {
+  const up = turn === 'white' ? 1 : -1;
+  const one = step(from, 0, up), two = from >> 3 === (turn === 'white' ? 1 : 6) ? step(one, 0, up) : -1;
+  const free = (to) => to >= 0 && cells[to] === '';
+  const ends = free(one) ? [one, two].filter(free) : [];
+  const takes = (to) => to >= 0 && (sideOf(cells[to]) === other(turn) || to === ep);
+  return ends.concat([step(from, -1, up), step(from, 1, up)].filter(takes));
+}
+
+function pieceEnds({ cells, turn }, from, kind) {
+  const ends = [];
+  for (const [df, dr] of { n: KNIGHT, b: DIAGONAL, r: STRAIGHT }[kind] ?? ALL) {
+    for (let to = step(from, df, dr); to >= 0; to = step(to, df, dr)) {
+      if (sideOf(cells[to]) !== turn) ends.push(to);
+      if (cells[to] !== '' || kind === 'n' || kind === 'k') break;
+    }
+  }
+  return ends;
+}
+
+function castlingEnds(pos, from) {
+  const { cells, turn, rights } = pos;
+  if (rights === '' || inCheck(pos)) return [];
+  const [short, long] = turn === 'white' ? 'KQ' : 'kq';
+  const safe = (to) => cells[to] === '' && !attacked(cells, to, other(turn));
+  const ends = rights.includes(short) && safe(from + 1) && safe(from + 2) ? [from + 2] : [];
+  return rights.includes(long) && cells[from - 3] === '' && safe(from - 1) && safe(from - 2) ? ends.concat(from - 2) : ends;
 }
 
 // The position after a move. The move need not be legal; the host's moves always are.

@@ -41,8 +41,8 @@ function drawMe() {
 function seatWords() {
   if (page.over || (ended() && !live())) return 'The arena is over. Thank you for playing.';
   return {
-    absent: 'You are not in yet. Enter to be paired.',
-    idle: page.arena && hall.now() < page.arena.starts ? 'You are in. The first games come when the arena starts.' : 'Waiting for your next opponent …',
+    absent: 'You are not in yet: enter to be paired.',
+    idle: page.arena && hall.now() < page.arena.starts ? 'You are in, and the first games come when the arena starts.' : 'Waiting for your next opponent …',
     paused: 'You are paused and will not be paired.',
     left: 'You have left this arena.',
     playing: { paused: 'You will be paused after this game.', left: 'This is your last game, you have left.' }[page.wish] ?? 'You are playing.',

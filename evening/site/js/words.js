@@ -1,10 +1,10 @@
 // What the host's words mean to a player.
 
 const REFUSALS = {
-  NoKey: 'This needs your key. Please open your personal link again.',
-  UnknownKey: 'The hall does not know this key. Please check your link or ask the director.',
+  NoKey: 'This needs your key: please open your personal link again.',
+  UnknownKey: 'The hall does not know this key: please check your link or ask the director.',
   Closed: 'The arena is over.',
-  Left: 'You have left this arena for good. One cannot come back.',
+  Left: 'You have left this arena for good and cannot come back.',
   AlreadyIn: 'You are in already.',
   AlreadyPaused: 'You are paused already.',
   NotEntered: 'You have not entered yet.',
@@ -15,13 +15,13 @@ const REFUSALS = {
   Illegal: 'That move is not legal.',
   OfferStands: 'A draw offer stands, or you have offered at this move already.',
   NoOffer: 'There is no draw offer any more.',
-  NoClaim: 'No draw can be claimed here. It takes the same position three times, or fifty moves each without a pawn move or capture.',
+  NoClaim: 'No draw can be claimed here: it takes the same position three times, or fifty moves each without a pawn move or capture.',
   BerserkLate: 'Berserk is possible only before your first move.',
   BerserkTwice: 'You have gone berserk already.',
   BerserkZero: 'There is no berserk with this time control.',
-  Full: 'The host has no room for more entries. Please tell the director.',
+  Full: 'The host has no room for more entries: please tell the director.',
 };
-export const refusal = (code) => REFUSALS[code] ?? `The hall refused this (${code}). Please tell the director.`;
+export const refusal = (code) => REFUSALS[code] ?? `The hall refused this (${code}): please tell the director.`;
 
 const CAUSES = {
   mate: 'checkmate', stalemate: 'stalemate', resign: 'resignation', agreed: 'agreement',

@@ -3,11 +3,12 @@
 
 Start it beside `.ci/run`, with the place of the checkout that the gate works in (this one if none is named). Twice a second it looks
 at the toolchain's processes: one in a crate's folder there proves the crate, or its tests where its words say so, and one in a copy
-of the crate tries its wrong bodies. Where no such process has been seen for a minute, or at Ctrl-C, it prints a row a crate, in the
+of the crate tries its wrong bodies. Where no such process has been seen for a minute, or when it is told to end, it prints a row a crate, in the
 form of docs/PERFORMANCE.md: processor minutes of the proof, of the proofs of its tests and of its wrong bodies, and the most memory
 that one process had. What the toolchain kept from an earlier run takes nothing, so a whole table wants a run from nothing."""
 
 import os
+import signal
 import sys
 import time
 
@@ -67,7 +68,12 @@ def watch(place):
     return sums, peak
 
 
+def stop(*_):
+    raise KeyboardInterrupt
+
+
 def main():
+    signal.signal(signal.SIGTERM, stop)
     place = os.path.abspath(sys.argv[1]) if len(sys.argv) > 1 else HERE
     sums, peak = watch(place)
     crates = sorted(peak, key=lambda crate: -sum(sums.get((crate, kind), 0) for kind in KINDS))

@@ -8,18 +8,18 @@ status and body; `..` in a body stands for anything. It ends with the number of 
 import json
 import os
 import re
+import socket
 import subprocess
 import sys
 import tempfile
 import time
 
 TOP = os.path.dirname(os.path.dirname(os.path.abspath(__file__)))
-PORT = 8080
-NAMES = f"""arena=http://127.0.0.1:{PORT}/api
+NAMES = """arena=http://127.0.0.1:PORT/api
 alice='Authorization: Bearer alicekey00000001'
 bob='Authorization: Bearer bobkey0000000001'
 carol='Authorization: Bearer carolkey00000001'
-curl() {{ command curl -s -w '\\n%{{http_code}}' "$@"; }}
+curl() { command curl -s -w '\\n%{http_code}' "$@"; }
 """
 
 
@@ -36,9 +36,16 @@ def evenings():
         yield setup, re.findall(r"^\| `(curl .*?)` \| (\d+) \| `(.*)` \|$", part, re.MULTILINE)
 
 
-def agrees(command, status, body):
+def free_port():
+    """A port of this machine that nobody has."""
+    with socket.socket() as it:
+        it.bind(("127.0.0.1", 0))
+        return it.getsockname()[1]
+
+
+def agrees(port, command, status, body):
     """Whether the shell's answer to the command is this status and body."""
-    done = subprocess.run(["bash", "-c", NAMES + command], capture_output=True, text=True, check=False)
+    done = subprocess.run(["bash", "-c", NAMES.replace("PORT", str(port)) + command], capture_output=True, text=True, check=False)
     said, _, code = done.stdout.rpartition("\n")
     pattern = ".*".join(re.escape(piece) for piece in body.split(".."))
     if code == status and re.fullmatch(pattern, said):
@@ -53,13 +60,15 @@ def try_evening(program, setup, rows):
         path = os.path.join(folder, "setup.json")
         with open(path, "w", encoding="utf-8") as file:
             json.dump(setup, file)
-        words = [program, "serve", path, str(PORT), "4", os.path.join(folder, "journal.txt")]
-        host = subprocess.Popen(words, stdout=subprocess.DEVNULL)
+        port = free_port()
+        words = [program, "serve", path, str(port), "4", os.path.join(folder, "journal.txt")]
+        host = subprocess.Popen(words, stdout=subprocess.DEVNULL, stderr=subprocess.PIPE, text=True)
         try:
-            time.sleep(1)
+            # It says that it listens, or why it does not.
+            print(host.stderr.readline(), end="")
             good = 0
             for row in rows:
-                good += agrees(*row)
+                good += agrees(port, *row)
                 # A wave, or the end, comes between two connections.
                 time.sleep(0.2)
             return good

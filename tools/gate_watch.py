@@ -36,24 +36,28 @@ def processes():
             continue
 
 
-def work_of(place, folder, words):
-    """The crate and the kind of work of a process, or None where it works for somebody else."""
-    top, crate = os.path.split(folder)
-    if os.path.basename(top) != "crates":
+def work_of(place, folder, words, copies):
+    """The crate and the kind of work of a process, or None where it works for somebody else. copies: the crate of each copy."""
+    top, name = os.path.split(folder)
+    if top == os.path.join(place, "crates"):
+        return name, "tests" if "--test" in words else "proof"
+    if not name.startswith("rt-edit-"):
         return None
-    if os.path.dirname(top) == place:
-        return crate, "tests" if "--test" in words else "proof"
-    return (crate, "bodies") if "edit" in top or "must-fail" in top else None
+    if "--crate-name" in words:
+        copies[folder] = words[words.index("--crate-name") + 1]
+    return (copies[folder], "bodies") if folder in copies else None
 
 
 def watch(place):
     """Processor seconds by crate and kind, and the greatest memory by crate, until the gate has been silent for a minute."""
-    taken, peak, works, silent = {}, {}, {}, 0.0
+    taken, peak, works, copies, silent = {}, {}, {}, {}, 0.0
     try:
         while silent < 60 or not taken:
             seen = False
             for number, folder, words, seconds, memory in processes():
-                work = works.setdefault(number, work_of(place, folder, words))
+                if not works.get(number):
+                    works[number] = work_of(place, folder, words, copies)
+                work = works[number]
                 if work:
                     seen = True
                     taken[number] = seconds

@@ -4,6 +4,7 @@ use Rattle.arena_main.specs.declared.forms.Form.{Form}
 use Rattle.arena_main.specs.declared.forms.Form.TheVariants.{Replay, Upgrade, Pgn, Gen, Serve}
 use Rattle.replay.specs.declared.replaying.Wanted.{Wanted}
 use Rattle.replay.specs.declared.replaying.Wanted.TheVariants.{Table, Upgraded, Games}
+use Rattle.arena_main.specs.Evenings.{AskForEvening}
 use Rattle.arena_main.specs.Forms.{HasForm, IsWithin}
 use Rattle.arena_main.specs.Runs.{AsksNothing, IsOther, form_of}
 use Rattle.arena_main.proofs.Numbers.{says_one}
@@ -86,8 +87,8 @@ gen_in_range words o has s p same =
     let high = seed.high in
     (omega arith, players.low, players.high)
 
--- and so is what an evening is asked for
-pub serve_in_range : (words : List (List ℕ)) (o : Option Form) → IfSome o (HasForm words) → (port w : ℕ) → o ≡ Some (Serve port w) → (1 ≤ w) × (w ≤ 256)
-serve_in_range words o has port w same =
-    let (setup, a, b, journal, is, on, workers) = subst (λ x. IfSome x (HasForm words)) same has in
-    (workers.low, workers.high)
+-- words that ask for an evening have its form
+pub form_of_evening : (words : List (List ℕ)) (o : Option Form) → IfSome o (HasForm words) → (IsNone o → (f : Form) → ¬ HasForm words f)
+    → (setup : List ℕ) (port workers : ℕ) (journal : List ℕ) → AskForEvening words setup port workers journal → o ≡ Some (Serve port workers)
+form_of_evening words o has none setup port workers journal ask =
+    form_is words o has none (Serve port workers) (setup, ask.port_word, ask.workers_word, journal, ask.words_are, ask.says_port, ask.says_workers)

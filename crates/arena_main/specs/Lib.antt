@@ -1,3 +1,4 @@
+pub mod Evenings
 pub mod Forms
 pub mod Runs
 pub mod Words

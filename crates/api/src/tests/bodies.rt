@@ -2,7 +2,6 @@
 
 ghost use Rattle.std.specs.Prelude.{IfOk, ◌≡◌, ◌≤◌, length};
 ghost use Rattle.entries.specs.Ranges.{IsGood};
-ghost use Rattle.api.specs.Bodies.{IsShownAnswer, IsShownReply};
 
 use super::evening;
 use crate::{ApiError, answer_body, error_body, extra, reply_body, status};
@@ -18,54 +17,19 @@ use std::process::Abort;
 use std::test::Fail;
 use team_battle::TeamRow;
 
-fn says<R: Abort>(rt: &R, body: &Text, wanted: &str) {
-    assert!(rt; body.bytes() == wanted.as_bytes(), "{wanted}");
-}
-
-// The answer to the question has this body.
-fn answers<R: Abort>(
-    rt: &R,
-    alloc: Global,
-    setup: &Setup,
-    query: Query,
-    answer: &Answer,
-    wanted: &str,
-) -> Result<(), Fail>
-    requires good { IsGood setup.now }
-    requires shown { IsShownAnswer setup.now answer.now }
-{
-    says(rt, &answer_body(alloc, setup, &query, answer)?, wanted);
-    Ok(())
-}
-
-// The reply has this body.
-fn replies<R: Abort>(
-    rt: &R,
-    alloc: Global,
-    setup: &Setup,
-    reply: &Reply,
-    wanted: &str,
-) -> Result<(), Fail>
-    requires good { IsGood setup.now }
-    requires shown { IsShownReply setup.now reply.now }
-{
-    says(rt, &reply_body(alloc, setup, reply)?, wanted);
-    Ok(())
-}
-
 // The game of the two after White's first move, in which White offers a draw.
-fn opened(outcome: Option<Outcome>) -> Result<GameView, Fail>
+fn opened(outcome: Option<Outcome>) -> Result<GameView, AllocError>
     ensures white { IfOk result (λ game. game.white ≡ 0) }
     ensures black { IfOk result (λ game. game.black ≡ 1) }
 {
     let fen = b"rnbqkbnr/pppppppp/8/8/4P3/8/PPPP1PPP/RNBQKBNR b KQkq e3 0 1";
     let (Ok(position), Some(last)) = (read_fen(fen.as_slice()), read_move(b"e2e4")) else {
-        return Err(Fail::from(AllocError));
+        return Err(AllocError);
     };
-    Ok(shown(position, last, outcome))
+    Ok(view(position, last, outcome))
 }
 
-fn shown(position: Position, last: Move, outcome: Option<Outcome>) -> GameView
+fn view(position: Position, last: Move, outcome: Option<Outcome>) -> GameView
     ensures white { result.white ≡ 0 }
     ensures black { result.black ≡ 1 }
 {
@@ -96,69 +60,53 @@ fn resigned(winner: Option<Colour>, cause: Cause) -> Option<Outcome> {
     })
 }
 
-// The game goes on, and then it has ended.
-fn show_games<R: Abort>(rt: &R, alloc: Global, setup: &Setup) -> Result<(), Fail>
+fn running_game(alloc: Global, setup: &Setup) -> Result<Text, AllocError>
     requires good { IsGood setup.now }
     requires two { 2 ≤ length setup.now.players }
 {
-    let going = opened(None)?;
-    replies(
-        rt,
-        alloc,
-        setup,
-        &Reply::Game(going),
-        r#"{"black":"bob","blackBerserk":true,"blackMs":179999,"fen":"rnbqkbnr/pppppppp/8/8/4P3/8/PPPP1PPP/RNBQKBNR b KQkq - 0 1","id":0,"last":"e2e4","offer":"white","outcome":null,"ply":1,"turn":"black","white":"alice","whiteBerserk":false,"whiteMs":180000}"#,
-    )?;
-    let won = opened(resigned(Some(Colour::Black), Cause::Resign))?;
-    answers(
-        rt,
-        alloc,
-        setup,
-        Query::Game(0),
-        &Answer::Game(won),
-        r#"{"black":"bob","blackBerserk":true,"blackMs":179999,"fen":"rnbqkbnr/pppppppp/8/8/4P3/8/PPPP1PPP/RNBQKBNR b KQkq - 0 1","id":0,"last":"e2e4","offer":"white","outcome":{"cause":"resign","winner":"black"},"ply":1,"turn":"black","white":"alice","whiteBerserk":false,"whiteMs":180000}"#,
-    )
+    let going = Reply::Game(opened(None)?);
+    reply_body(alloc, setup, &going)
 }
 
-fn show_players<R: Abort>(rt: &R, alloc: Global, setup: &Setup) -> Result<(), Fail>
+fn ended_game(alloc: Global, setup: &Setup) -> Result<Text, AllocError>
     requires good { IsGood setup.now }
     requires two { 2 ≤ length setup.now.players }
 {
-    let plays = MeView {
+    let won = Answer::Game(opened(resigned(Some(Colour::Black), Cause::Resign))?);
+    answer_body(alloc, setup, &Query::Game(0), &won)
+}
+
+fn player_in_a_game(alloc: Global, setup: &Setup) -> Result<Text, AllocError>
+    requires good { IsGood setup.now }
+    requires two { 2 ≤ length setup.now.players }
+{
+    let plays = Reply::Me(MeView {
         player: 1,
         seat: PlayerSeat::Playing(3),
         rank: Some(4),
         points: 7,
         performance: -20,
         fire: true,
-    };
-    replies(
-        rt,
-        alloc,
-        setup,
-        &Reply::Me(plays),
-        r#"{"fire":true,"game":3,"name":"bob","performance":-20,"points":7,"rank":4,"rating":1900,"seat":"playing"}"#,
-    )?;
-    let absent = MeView {
+    });
+    reply_body(alloc, setup, &plays)
+}
+
+fn absent_player(alloc: Global, setup: &Setup) -> Result<Text, AllocError>
+    requires good { IsGood setup.now }
+    requires two { 2 ≤ length setup.now.players }
+{
+    let absent = Answer::Me(MeView {
         player: 0,
         seat: PlayerSeat::Absent,
         rank: None,
         points: 0,
         performance: 0,
         fire: false,
-    };
-    answers(
-        rt,
-        alloc,
-        setup,
-        Query::Me(0),
-        &Answer::Me(absent),
-        r#"{"fire":false,"game":null,"name":"alice","performance":0,"points":0,"rank":null,"rating":2000,"seat":"absent"}"#,
-    )
+    });
+    answer_body(alloc, setup, &Query::Me(0), &absent)
 }
 
-// A page with a row, and one past the end.
-fn show_standing<R: Abort>(rt: &R, alloc: Global, setup: &Setup) -> Result<(), Fail>
+fn page_with_a_row(alloc: Global, setup: &Setup) -> Result<Text, AllocError>
     requires good { IsGood setup.now }
     requires two { 2 ≤ length setup.now.players }
 {
@@ -174,23 +122,20 @@ fn show_standing<R: Abort>(rt: &R, alloc: Global, setup: &Setup) -> Result<(), F
         total: 11,
         rows: List::of(vec![in alloc; row]?),
     };
-    answers(
-        rt,
-        alloc,
-        setup,
-        Query::Standing(1),
-        &page,
-        r#"{"page":1,"players":[{"fire":false,"games":1,"name":"alice","performance":2400,"points":2,"rank":0,"rating":2000}],"total":11}"#,
-    )?;
+    answer_body(alloc, setup, &Query::Standing(1), &page)
+}
+
+fn page_past_the_end(alloc: Global, setup: &Setup) -> Result<Text, AllocError>
+    requires { IsGood setup.now }
+{
     let past = Answer::Standing {
         total: 11,
         rows: List::of(Vec::new(alloc)),
     };
-    let nobody = r#"{"page":2,"players":[],"total":11}"#;
-    answers(rt, alloc, setup, Query::Standing(2), &past, nobody)
+    answer_body(alloc, setup, &Query::Standing(2), &past)
 }
 
-fn show_teams<R: Abort>(rt: &R, alloc: Global, setup: &Setup) -> Result<(), Fail>
+fn teams(alloc: Global, setup: &Setup) -> Result<Text, AllocError>
     requires good { IsGood setup.now }
     requires one { 1 ≤ length setup.now.teams }
 {
@@ -201,32 +146,24 @@ fn show_teams<R: Abort>(rt: &R, alloc: Global, setup: &Setup) -> Result<(), Fail
         performance: -1,
     };
     let teams = Answer::Teams(List::of(vec![in alloc; team]?));
-    let red = r#"{"teams":[{"name":"Red","performance":-1,"points":2,"rank":0}]}"#;
-    answers(rt, alloc, setup, Query::Teams, &teams, red)
+    answer_body(alloc, setup, &Query::Teams, &teams)
 }
 
-fn show_arena<R: Abort>(rt: &R, alloc: Global, setup: &Setup) -> Result<(), Fail>
-    requires good { IsGood setup.now }
+fn arena(alloc: Global, setup: &Setup) -> Result<Text, AllocError>
+    requires { IsGood setup.now }
 {
-    let arena = ArenaView {
+    let arena = Answer::Arena(ArenaView {
         stamp: 5,
         phase: Phase::Running,
         entered: 2,
         begun: 1,
         running: 1,
-    };
-    answers(
-        rt,
-        alloc,
-        setup,
-        Query::Arena,
-        &Answer::Arena(arena),
-        r#"{"begun":1,"ends":3600000,"entered":2,"running":1,"starts":0,"state":"running","time":5}"#,
-    )
+    });
+    answer_body(alloc, setup, &Query::Arena, &arena)
 }
 
-fn show_journal<R: Abort>(rt: &R, alloc: Global, setup: &Setup) -> Result<(), Fail>
-    requires good { IsGood setup.now }
+fn journal(alloc: Global, setup: &Setup) -> Result<Text, AllocError>
+    requires { IsGood setup.now }
 {
     let entry = Entry {
         stamp: 5,
@@ -237,60 +174,133 @@ fn show_journal<R: Abort>(rt: &R, alloc: Global, setup: &Setup) -> Result<(), Fa
         total: 9,
         entries: List::of(vec![in alloc; entry]?),
     };
-    let page = r#"{"entries":["5 1 enter 0"],"from":8,"total":9}"#;
-    answers(rt, alloc, setup, Query::Journal(8), &journal, page)
+    answer_body(alloc, setup, &Query::Journal(8), &journal)
+}
+
+// What is shown of an evening.
+#[derive(Debug, Clone, Copy)]
+enum Shown {
+    RunningGame,
+    EndedGame,
+    PlayerInAGame,
+    AbsentPlayer,
+    PageWithARow,
+    PagePastTheEnd,
+    Teams,
+    Arena,
+    Journal,
+}
+
+fn body_of(alloc: Global, setup: &Setup, shown: Shown) -> Result<Text, AllocError>
+    requires good { IsGood setup.now }
+    requires two { 2 ≤ length setup.now.players }
+    requires one { 1 ≤ length setup.now.teams }
+{
+    match shown {
+        Shown::RunningGame => running_game(alloc, setup),
+        Shown::EndedGame => ended_game(alloc, setup),
+        Shown::PlayerInAGame => player_in_a_game(alloc, setup),
+        Shown::AbsentPlayer => absent_player(alloc, setup),
+        Shown::PageWithARow => page_with_a_row(alloc, setup),
+        Shown::PagePastTheEnd => page_past_the_end(alloc, setup),
+        Shown::Teams => teams(alloc, setup),
+        Shown::Arena => arena(alloc, setup),
+        Shown::Journal => journal(alloc, setup),
+    }
+}
+
+const BODIES: [(Shown, &str); 9] = [
+    (
+        Shown::RunningGame,
+        r#"{"black":"bob","blackBerserk":true,"blackMs":179999,"fen":"rnbqkbnr/pppppppp/8/8/4P3/8/PPPP1PPP/RNBQKBNR b KQkq - 0 1","id":0,"last":"e2e4","offer":"white","outcome":null,"ply":1,"turn":"black","white":"alice","whiteBerserk":false,"whiteMs":180000}"#,
+    ),
+    (
+        Shown::EndedGame,
+        r#"{"black":"bob","blackBerserk":true,"blackMs":179999,"fen":"rnbqkbnr/pppppppp/8/8/4P3/8/PPPP1PPP/RNBQKBNR b KQkq - 0 1","id":0,"last":"e2e4","offer":"white","outcome":{"cause":"resign","winner":"black"},"ply":1,"turn":"black","white":"alice","whiteBerserk":false,"whiteMs":180000}"#,
+    ),
+    (
+        Shown::PlayerInAGame,
+        r#"{"fire":true,"game":3,"name":"bob","performance":-20,"points":7,"rank":4,"rating":1900,"seat":"playing"}"#,
+    ),
+    (
+        Shown::AbsentPlayer,
+        r#"{"fire":false,"game":null,"name":"alice","performance":0,"points":0,"rank":null,"rating":2000,"seat":"absent"}"#,
+    ),
+    (
+        Shown::PageWithARow,
+        r#"{"page":1,"players":[{"fire":false,"games":1,"name":"alice","performance":2400,"points":2,"rank":0,"rating":2000}],"total":11}"#,
+    ),
+    (
+        Shown::PagePastTheEnd,
+        r#"{"page":2,"players":[],"total":11}"#,
+    ),
+    (
+        Shown::Teams,
+        r#"{"teams":[{"name":"Red","performance":-1,"points":2,"rank":0}]}"#,
+    ),
+    (
+        Shown::Arena,
+        r#"{"begun":1,"ends":3600000,"entered":2,"running":1,"starts":0,"state":"running","time":5}"#,
+    ),
+    (
+        Shown::Journal,
+        r#"{"entries":["5 1 enter 0"],"from":8,"total":9}"#,
+    ),
+];
+
+fn show_all<R: Abort>(rt: &R, alloc: Global, setup: &Setup) -> Result<(), AllocError>
+    requires good { IsGood setup.now }
+    requires two { 2 ≤ length setup.now.players }
+    requires one { 1 ≤ length setup.now.teams }
+{
+    for (shown, wanted) in &BODIES {
+        let body = body_of(alloc, setup, *shown)?;
+        assert!(rt; body.bytes() == wanted.as_bytes(), "{shown:?}");
+    }
+    Ok(())
 }
 
 #[test]
 fn what_is_asked_for_is_shown(rt: HostRuntime) -> Result<(), Fail> {
-    let alloc = rt.alloc();
-    let (setup, _) = evening(alloc)?;
-    show_games(&rt, alloc, &setup)?;
-    show_players(&rt, alloc, &setup)?;
-    show_standing(&rt, alloc, &setup)?;
-    show_teams(&rt, alloc, &setup)?;
-    show_arena(&rt, alloc, &setup)?;
-    show_journal(&rt, alloc, &setup)
+    let (setup, _) = evening(rt.alloc())?;
+    Ok(show_all(&rt, rt.alloc(), &setup)?)
+}
+
+// Errors, each with its status, its field and its body.
+const ERRORS: [(ApiError, &str); 5] = [
+    (
+        ApiError::BadMethod(Extra::AllowPost),
+        r#"405 AllowPost {"error":"BadMethod"}"#,
+    ),
+    (
+        ApiError::UnknownKey,
+        r#"401 Challenge {"error":"UnknownKey"}"#,
+    ),
+    (
+        ApiError::Refused(Refusal::AlreadyIn),
+        r#"409 Plain {"error":"AlreadyIn"}"#,
+    ),
+    (
+        ApiError::Refused(Refusal::Act(ActRefusal::Illegal)),
+        r#"400 Plain {"error":"Illegal"}"#,
+    ),
+    (
+        ApiError::HeadTooLong,
+        r#"431 Plain {"error":"HeadTooLong"}"#,
+    ),
+];
+
+fn answer_to(alloc: Global, error: &ApiError) -> Result<String, AllocError> {
+    let body = error_body(alloc, error)?;
+    let text = str::from_utf8(body.bytes()).unwrap_or("?");
+    format!(in alloc; "{} {:?} {text}", status(error), extra(error))
 }
 
 #[test]
 fn errors_are_shown(rt: HostRuntime) -> Result<(), Fail> {
-    let errors: [(ApiError, u16, Extra, &str); 5] = [
-        (
-            ApiError::BadMethod(Extra::AllowPost),
-            405,
-            Extra::AllowPost,
-            r#"{"error":"BadMethod"}"#,
-        ),
-        (
-            ApiError::UnknownKey,
-            401,
-            Extra::Challenge,
-            r#"{"error":"UnknownKey"}"#,
-        ),
-        (
-            ApiError::Refused(Refusal::AlreadyIn),
-            409,
-            Extra::Plain,
-            r#"{"error":"AlreadyIn"}"#,
-        ),
-        (
-            ApiError::Refused(Refusal::Act(ActRefusal::Illegal)),
-            400,
-            Extra::Plain,
-            r#"{"error":"Illegal"}"#,
-        ),
-        (
-            ApiError::HeadTooLong,
-            431,
-            Extra::Plain,
-            r#"{"error":"HeadTooLong"}"#,
-        ),
-    ];
-    for (error, code, field, wanted) in &errors {
-        assert_eq!(rt; status(error), *code);
-        assert_eq!(rt; extra(error), *field);
-        says(&rt, &error_body(rt.alloc(), error)?, wanted);
+    for (error, wanted) in &ERRORS {
+        let told = answer_to(rt.alloc(), error)?;
+        assert!(rt; told.as_str() == *wanted, "{told}");
     }
     Ok(())
 }

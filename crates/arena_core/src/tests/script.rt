@@ -202,6 +202,35 @@ fn see(text: &mut String, alloc: Global, arena: &Arena, words: &[&str]) -> Resul
     }
 }
 
+/// Does what the words of a line say, and writes what it is answered.
+fn obey_words<R: Threads + Sync>(
+    rt: &R,
+    alloc: Global,
+    text: &mut String,
+    arena: &mut Arena,
+    plan: &mut Plan,
+    words: &[&str],
+) -> Result<(), AllocError>
+    requires { IsPlanOf arena.old.setup arena.old.entries plan.old }
+    ensures { IsPlanOf arena.new.setup arena.new.entries plan.new }
+{
+    match *words {
+        ["plan"] => {
+            *plan = planned(rt, alloc, arena)?;
+            write_plan(text, plan)
+        }
+        ["reserve", count] => arena.reserve(number(count)),
+        ["all", count] => enter_all(text, arena, plan, number(count)),
+        ["play", now, g, ..] => play(text, arena, plan, moment(now), number(g), &words[3..]),
+        [now, pass, "commit"] => commit(text, alloc, arena, plan, number(pass), moment(now)),
+        [now, pass, _, ..] => match command(&words[2..]) {
+            Some(c) => obey(text, arena, plan, number(pass), moment(now), c),
+            None => see(text, alloc, arena, words),
+        },
+        _ => see(text, alloc, arena, words),
+    }
+}
+
 /// Does what a line says, and writes what it is answered. The plan that is kept is that of the last line `plan`, or that of the
 /// arena's beginning. Where memory is refused to it, it does nothing.
 pub fn say<R: Threads + Sync>(
@@ -217,19 +246,5 @@ pub fn say<R: Threads + Sync>(
 {
     text.clear();
     let words: Vec<&str> = line.split_whitespace().collect(alloc)?;
-    match *words.as_slice() {
-        ["plan"] => {
-            *plan = planned(rt, alloc, arena)?;
-            write_plan(text, plan)
-        }
-        ["reserve", count] => arena.reserve(number(count)),
-        ["all", count] => enter_all(text, arena, plan, number(count)),
-        ["play", now, g, ..] => play(text, arena, plan, moment(now), number(g), &words[3..]),
-        [now, pass, "commit"] => commit(text, alloc, arena, plan, number(pass), moment(now)),
-        [now, pass, _, ..] => match command(&words[2..]) {
-            Some(c) => obey(text, arena, plan, number(pass), moment(now), c),
-            None => see(text, alloc, arena, words.as_slice()),
-        },
-        _ => see(text, alloc, arena, words.as_slice()),
-    }
+    obey_words(rt, alloc, text, arena, plan, words.as_slice())
 }

@@ -1,5 +1,5 @@
 use Rattle.arena_rules.specs.Commits.{IsPlanOf}
-use Rattle.arena_core.proofs.tests.goes.Given as goal
+use Rattle.arena_core.proofs.tests.say_all.Given as goal
 
 -- the plan is one of the journal's first entries all along
 abbrev pub invariant-saying : goal.invariant-saying

@@ -1,3 +1,6 @@
+ghost use Rattle.std.specs.Prelude.{IfOk};
+ghost use Rattle.entries.specs.Ranges.{IsWritable};
+
 use super::*;
 use conn::Text;
 use entries::{Entry, Journal, Player, Setup, Start};
@@ -101,7 +104,9 @@ Start { entry: 3, white: 0, black: 0 }
 const LISTED_ENTRIES: &str = "0 0 enter 0\n0 0 wave 3\n1000 0 act 1 0 resign\n2000 0 wave 5\nend\n";
 
 /// The journal of the text.
-fn journal_of(alloc: Global, text: &str) -> Result<Journal, Fail> {
+fn journal_of(alloc: Global, text: &str) -> Result<Journal, Fail>
+    ensures writable { IfOk result IsWritable }
+{
     Ok(
         read_journal(alloc, text.as_bytes())
             .ok()

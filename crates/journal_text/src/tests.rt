@@ -1,10 +1,15 @@
+ghost use Rattle.std.specs.Prelude.{IfOk};
+ghost use Rattle.entries.specs.Ranges.{IsWritable};
+
 use super::*;
-use board::read_move;
-use entries::{Action, Control, Entry, Start, What};
+use conn::Text;
+use entries::{Entry, Journal, Player, Setup, Start};
 use std::alloc::{AllocError, Global};
 use std::fmt::Write;
+use std::process::Abort;
 use std::test::Fail;
 
+mod counts;
 mod faults;
 
 /// Three players, of whom the first and the third enter.
@@ -23,6 +28,223 @@ const GAMES: &str =
 const LISTED: &str =
     "arena 2\nrule 2\ncontrol 180 2 20000\nwindow 0 3600000\nwave 5000\nleaders 1\nplayer 2000 - a\nplayer 1990 - b\nplayer 1980 - c\nplayer 1970 - d\nbegin\n0 0 enter 0\n0 0 wave 3 1-2 3-0\n1000 0 act 1 0 resign\n2000 0 wave 5 0-0\nend\n";
 
+/// What each of the texts says: the version, the rule and the setup, and then a line for each team, player, entry and game.
+const SAYINGS: [(&str, &str); 4] = [
+    (
+        EVENING,
+        "version 1, rule 1
+Control { initial_ms: 180000, inc_ms: 2000, first_ms: 20000 }
+starts 0, ends 3600000, wave 5000, leaders 1
+alice 2000 None
+bob 1900 None
+carol 2100 None
+Entry { stamp: 0, pass: 0, what: Enter(0) }
+Entry { stamp: 5, pass: 0, what: Enter(2) }
+",
+    ),
+    (
+        BATTLE,
+        "version 1, rule 1
+Control { initial_ms: 0, inc_ms: 180000, first_ms: 300000 }
+starts 899999999, ends 900000000, wave 600000, leaders 20
+Red
+Blue
+Red 400 Some(1)
+b_B-9 4000 Some(0)
+carol 2100 None
+Entry { stamp: 0, pass: 0, what: Enter(0) }
+Entry { stamp: 0, pass: 255, what: Enter(2) }
+Entry { stamp: 7, pass: 1, what: Pause(2) }
+Entry { stamp: 1000000000, pass: 3, what: Leave(0) }
+",
+    ),
+    (
+        GAMES,
+        "version 1, rule 1
+Control { initial_ms: 180000, inc_ms: 2000, first_ms: 20000 }
+starts 0, ends 3600000, wave 5000, leaders 1
+alice 2000 None
+bob 1900 None
+Entry { stamp: 0, pass: 0, what: Enter(0) }
+Entry { stamp: 0, pass: 0, what: Enter(1) }
+Entry { stamp: 1000, pass: 0, what: Wave(2) }
+Entry { stamp: 1000, pass: 0, what: Act(0, 0, Berserk) }
+Entry { stamp: 2000, pass: 0, what: Act(0, 0, Move(Move { from: Square(12), to: Square(28), promo: None })) }
+Entry { stamp: 2000, pass: 0, what: Act(1, 0, Offer) }
+Entry { stamp: 2001, pass: 0, what: Act(0, 0, Decline) }
+Entry { stamp: 2002, pass: 0, what: Act(1, 199999, Move(Move { from: Square(48), to: Square(56), promo: Some(Queen) })) }
+Entry { stamp: 2003, pass: 0, what: Act(1, 0, Claim) }
+Entry { stamp: 2004, pass: 0, what: Act(1, 0, Accept) }
+Entry { stamp: 3000, pass: 0, what: Tick }
+Entry { stamp: 3000, pass: 255, what: Act(0, 0, Resign) }
+Entry { stamp: 4000, pass: 1, what: Wave(8000000) }
+",
+    ),
+    (
+        LISTED,
+        "version 2, rule 2
+Control { initial_ms: 180000, inc_ms: 2000, first_ms: 20000 }
+starts 0, ends 3600000, wave 5000, leaders 1
+a 2000 None
+b 1990 None
+c 1980 None
+d 1970 None
+Entry { stamp: 0, pass: 0, what: Enter(0) }
+Entry { stamp: 0, pass: 0, what: Wave(3) }
+Entry { stamp: 1000, pass: 0, what: Act(1, 0, Resign) }
+Entry { stamp: 2000, pass: 0, what: Wave(5) }
+Start { entry: 1, white: 1, black: 2 }
+Start { entry: 1, white: 3, black: 0 }
+Start { entry: 3, white: 0, black: 0 }
+",
+    ),
+];
+
+/// The lines of the entries of `LISTED`, without the games that they list, and the line behind them.
+const LISTED_ENTRIES: &str = "0 0 enter 0\n0 0 wave 3\n1000 0 act 1 0 resign\n2000 0 wave 5\nend\n";
+
+/// The journal of the text.
+fn journal_of(alloc: Global, text: &str) -> Result<Journal, Fail>
+    ensures writable { IfOk result IsWritable }
+{
+    Ok(
+        read_journal(alloc, text.as_bytes())
+            .ok()
+            .ok_or("the text is a journal's")?,
+    )
+}
+
+/// The name as a text.
+fn name(text: &Text) -> &str {
+    std::str::from_utf8(text.bytes()).unwrap_or("not UTF-8")
+}
+
+/// Shows what a setup says beside its teams and players.
+fn show_setup(shown: &mut String, setup: &Setup) -> Result<(), AllocError> {
+    write!(shown, "{:?}\n", setup.control)?;
+    write!(shown, "starts {}, ends {}, ", setup.starts, setup.ends)?;
+    write!(shown, "wave {}, leaders {}\n", setup.wave_ms, setup.leaders)
+}
+
+/// Shows teams by their names.
+fn show_teams(shown: &mut String, teams: &[Text]) -> Result<(), AllocError> {
+    for team in teams {
+        write!(shown, "{}\n", name(team))?;
+    }
+    Ok(())
+}
+
+/// Shows each player's name, rating and team.
+fn show_players(shown: &mut String, players: &[Player]) -> Result<(), AllocError> {
+    for player in players {
+        write!(
+            shown,
+            "{} {} {:?}\n",
+            name(&player.name),
+            player.rating,
+            player.team
+        )?;
+    }
+    Ok(())
+}
+
+/// Shows each entry.
+fn show_entries(shown: &mut String, entries: &[Entry]) -> Result<(), AllocError> {
+    for entry in entries {
+        write!(shown, "{entry:?}\n")?;
+    }
+    Ok(())
+}
+
+/// Shows each game of a wave.
+fn show_starts(shown: &mut String, starts: &[Start]) -> Result<(), AllocError> {
+    for start in starts {
+        write!(shown, "{start:?}\n")?;
+    }
+    Ok(())
+}
+
+/// Shows a whole journal.
+fn show(shown: &mut String, journal: &Journal) -> Result<(), AllocError> {
+    let setup = &journal.setup;
+    write!(shown, "version {}, rule {}\n", journal.version, setup.rule)?;
+    show_setup(shown, setup)?;
+    show_teams(shown, setup.teams.items())?;
+    show_players(shown, setup.players.items())?;
+    show_entries(shown, journal.entries.items())?;
+    show_starts(shown, journal.starts.items())
+}
+
+/// What the text's journal says.
+fn saying(alloc: Global, text: &str) -> Result<String, Fail> {
+    let journal = journal_of(alloc, text)?;
+    let mut shown = String::new(alloc);
+    show(&mut shown, &journal)?;
+    Ok(shown)
+}
+
+#[test]
+fn texts_are_read(rt: HostRuntime) -> Result<(), Fail> {
+    for (text, wanted) in SAYINGS {
+        let found = saying(rt.alloc(), text)?;
+        assert_eq!(rt; found.as_str(), wanted);
+    }
+    one_journal();
+    journal_or_fault();
+    first_that_cannot_stand();
+    place_of_entry();
+    Ok(())
+}
+
+/// The journal of the text, written.
+fn written(alloc: Global, text: &str) -> Result<Text, Fail> {
+    let journal = journal_of(alloc, text)?;
+    Ok(write_journal(alloc, &journal)?)
+}
+
+#[test]
+fn a_journal_is_written_and_read_back(rt: HostRuntime) -> Result<(), Fail> {
+    for text in [EVENING, BATTLE, GAMES, LISTED] {
+        let written = written(rt.alloc(), text)?;
+        assert_eq!(rt; written.bytes(), text.as_bytes());
+    }
+    Ok(())
+}
+
+/// Puts the line of each entry, written by itself.
+fn put_entries(lines: &mut Vec<u8>, alloc: Global, entries: &[Entry]) -> Result<(), AllocError> {
+    for entry in entries {
+        let line = write_entry(alloc, entry)?;
+        lines.extend_from_slice(line.bytes())?;
+        lines.push(b'\n')?;
+    }
+    Ok(())
+}
+
+/// The lines of the entries of the text's journal, and the line behind them.
+fn entry_lines(alloc: Global, text: &str) -> Result<Vec<u8>, Fail> {
+    let journal = journal_of(alloc, text)?;
+    let mut lines = Vec::new(alloc);
+    put_entries(&mut lines, alloc, journal.entries.items())?;
+    lines.extend_from_slice(b"end\n")?;
+    Ok(lines)
+}
+
+#[test]
+fn each_entry_is_written_by_itself(rt: HostRuntime) -> Result<(), Fail> {
+    for text in [EVENING, BATTLE, GAMES] {
+        let (_, wanted) = text.split_once("begin\n").ok_or("entries begin")?;
+        let lines = entry_lines(rt.alloc(), text)?;
+        assert_eq!(rt; lines.as_slice(), wanted.as_bytes());
+    }
+    let lines = entry_lines(rt.alloc(), LISTED)?;
+    assert_eq!(rt; lines.as_slice(), LISTED_ENTRIES.as_bytes());
+    Ok(())
+}
+
+/// An old part, a new part, and the fault of the text with the one in place of the other: its line and its cause, or `read`.
+type Case = (&'static str, &'static str, &'static str);
+
 /// The text with the first such part changed.
 fn changed(alloc: Global, text: &str, old: &str, new: &str) -> Result<String, AllocError> {
     match text.split_once(old) {
@@ -31,257 +253,63 @@ fn changed(alloc: Global, text: &str, old: &str, new: &str) -> Result<String, Al
     }
 }
 
-/// The line and the cause for which the text is refused, if it is.
-fn refusal(alloc: Global, text: &[u8]) -> Option<(u64, JournalCause)> {
-    match read_journal(alloc, text) {
-        Err(ReadJournalFault::Bad(fault)) => Some((fault.line, fault.cause)),
-        _ => None,
+/// The fault of the text, if it has one.
+fn fault(alloc: Global, text: &[u8]) -> Option<ReadJournalFault> {
+    read_journal(alloc, text).err()
+}
+
+/// The line and the cause of the text's fault, or `read`.
+fn finding(alloc: Global, text: &[u8]) -> Result<String, AllocError> {
+    match fault(alloc, text) {
+        None => String::from_str(alloc, "read"),
+        Some(ReadJournalFault::OutOfMemory) => Err(AllocError),
+        Some(ReadJournalFault::Bad(JournalFault { line, cause })) => {
+            format!(in alloc; "{line} {cause:?}")
+        }
     }
 }
 
-#[test]
-fn an_evening_is_read(rt: HostRuntime) -> Result<(), Fail> {
-    let journal = read_journal(rt.alloc(), EVENING.as_bytes())
-        .ok()
-        .ok_or("the text is a journal's")?;
-    let setup = &journal.setup;
-    let control = Control {
-        initial_ms: 180_000,
-        inc_ms: 2000,
-        first_ms: 20_000,
-    };
-    assert_eq!(rt; setup.control, control);
-    assert_eq!(rt;
-        (setup.starts, setup.ends, setup.wave_ms, setup.leaders),
-        (0, 3_600_000, 5000, 1)
-    );
-    assert!(rt; setup.teams.items().is_empty());
-    let wanted = [("alice", 2000), ("bob", 1900), ("carol", 2100)];
-    assert_eq!(rt; setup.players.items().len(), wanted.len());
-    for (player, (name, rating)) in setup.players.items().iter().zip(wanted.iter()) {
-        assert_eq!(rt; player.name.bytes(), name.as_bytes());
-        assert_eq!(rt; (player.rating, player.team), (*rating, None));
+/// What is found of the text with the part changed.
+fn finding_of_changed(
+    alloc: Global,
+    text: &str,
+    old: &str,
+    new: &str,
+) -> Result<String, AllocError> {
+    let text = changed(alloc, text, old, new)?;
+    finding(alloc, text.as_bytes())
+}
+
+/// Checks that the text with each of these parts changed has the fault beside it.
+fn check(rt: &impl Abort, alloc: Global, text: &str, cases: &[Case]) -> Result<(), Fail> {
+    for (old, new, wanted) in cases {
+        let found = finding_of_changed(alloc, text, old, new)?;
+        assert_eq!(rt; found.as_str(), *wanted, "{new}");
     }
-    let entries = [
-        Entry {
-            stamp: 0,
-            pass: 0,
-            what: What::Enter(0),
-        },
-        Entry {
-            stamp: 5,
-            pass: 0,
-            what: What::Enter(2),
-        },
-    ];
-    assert_eq!(rt; journal.entries.items(), entries.as_slice());
-    one_journal();
-    journal_or_fault();
-    first_that_cannot_stand();
-    place_of_entry();
     Ok(())
 }
+
+/// Values at the ends of their ranges.
+const ENDS: [Case; 15] = [
+    ("control 180 2 20000", "control 10800 0 1000", "read"),
+    ("control 180 2 20000", "control 0 180 300000", "read"),
+    ("window 0 3600000", "window 899999999 900000000", "read"),
+    ("wave 5000", "wave 100", "read"),
+    ("wave 5000", "wave 600000", "read"),
+    ("leaders 1", "leaders 20", "read"),
+    ("player 2000", "player 400", "read"),
+    ("player 2000", "player 4000", "read"),
+    ("alice", "-", "read"),
+    ("alice", "Az09_-Az09_-Az09_-Az", "read"),
+    ("5 0 enter 2", "1000000000 255 leave 2", "read"),
+    ("5 0 enter 2", "0 0 pause 0", "read"),
+    ("0 0 enter 0\n5 0 enter 2\n", "", "read"),
+    // A team and a player may have one name.
+    ("player 2000", "team alice\nplayer 2000", "read"),
+    ("player 2000 -", "team Red\nplayer 2000 0", "read"),
+];
 
 #[test]
 fn values_at_the_ends_of_their_ranges_are_read(rt: HostRuntime) -> Result<(), Fail> {
-    let cases = [
-        ("control 180 2 20000", "control 10800 0 1000"),
-        ("control 180 2 20000", "control 0 180 300000"),
-        ("window 0 3600000", "window 899999999 900000000"),
-        ("wave 5000", "wave 100"),
-        ("wave 5000", "wave 600000"),
-        ("leaders 1", "leaders 20"),
-        ("player 2000", "player 400"),
-        ("player 2000", "player 4000"),
-        ("alice", "-"),
-        ("alice", "Az09_-Az09_-Az09_-Az"),
-        ("5 0 enter 2", "1000000000 255 leave 2"),
-        ("5 0 enter 2", "0 0 pause 0"),
-        ("0 0 enter 0\n5 0 enter 2\n", ""),
-        // A team and a player may have one name.
-        ("player 2000", "team alice\nplayer 2000"),
-        ("player 2000 -", "team Red\nplayer 2000 0"),
-    ];
-    for (old, new) in cases {
-        let text = changed(rt.alloc(), EVENING, old, new)?;
-        assert!(rt; read_journal(rt.alloc(), text.as_bytes()).is_ok(), "{new}");
-    }
-    Ok(())
-}
-
-#[test]
-fn a_journal_is_written_and_read_back(rt: HostRuntime) -> Result<(), Fail> {
-    for text in [EVENING, BATTLE, GAMES, LISTED] {
-        let journal = read_journal(rt.alloc(), text.as_bytes())
-            .ok()
-            .ok_or("the text is a journal's")?;
-        let written = write_journal(rt.alloc(), &journal)?;
-        assert_eq!(rt; written.bytes(), text.as_bytes());
-    }
-    for text in [EVENING, BATTLE, GAMES] {
-        let journal = read_journal(rt.alloc(), text.as_bytes())
-            .ok()
-            .ok_or("the text is a journal's")?;
-        let lines = text.as_bytes().split(|b| *b == b'\n');
-        let first = 6 + journal.setup.teams.items().len() + journal.setup.players.items().len();
-        for (entry, line) in journal.entries.items().iter().zip(lines.skip(first)) {
-            assert_eq!(rt; write_entry(rt.alloc(), entry)?.bytes(), line);
-        }
-    }
-    Ok(())
-}
-
-/// The one move of this word.
-fn action(word: &str) -> Result<Action, Fail> {
-    Ok(Action::Move(read_move(word.as_bytes()).ok_or("the word is a move's")?))
-}
-
-#[test]
-fn each_kind_of_entry_is_read(rt: HostRuntime) -> Result<(), Fail> {
-    let journal = read_journal(rt.alloc(), GAMES.as_bytes())
-        .ok()
-        .ok_or("the text is a journal's")?;
-    assert_eq!(rt; (journal.version, journal.setup.rule), (1, 1));
-    assert!(rt; journal.starts.items().is_empty());
-    let wanted = [
-        What::Enter(0),
-        What::Enter(1),
-        What::Wave(2),
-        What::Act(0, 0, Action::Berserk),
-        What::Act(0, 0, action("e2e4")?),
-        What::Act(1, 0, Action::Offer),
-        What::Act(0, 0, Action::Decline),
-        What::Act(1, 199_999, action("a7a8q")?),
-        What::Act(1, 0, Action::Claim),
-        What::Act(1, 0, Action::Accept),
-        What::Tick,
-        What::Act(0, 0, Action::Resign),
-        What::Wave(8_000_000),
-    ];
-    assert_eq!(rt; journal.entries.items().len(), wanted.len());
-    for (entry, what) in journal.entries.items().iter().zip(wanted.iter()) {
-        assert_eq!(rt; entry.what, *what);
-    }
-    Ok(())
-}
-
-#[test]
-fn the_games_of_waves_are_read(rt: HostRuntime) -> Result<(), Fail> {
-    let journal = read_journal(rt.alloc(), LISTED.as_bytes())
-        .ok()
-        .ok_or("the text is a journal's")?;
-    assert_eq!(rt; (journal.version, journal.setup.rule), (2, 2));
-    let wanted = [(1u64, 1u32, 2u32), (1, 3, 0), (3, 0, 0)];
-    assert_eq!(rt; journal.starts.items().len(), wanted.len());
-    for (game, (entry, white, black)) in journal.starts.items().iter().zip(wanted.iter()) {
-        assert_eq!(rt;
-            *game,
-            Start {
-                entry: *entry,
-                white: *white,
-                black: *black
-            }
-        );
-    }
-    let wave = journal.entries.items().get(1).ok_or("there is a wave")?;
-    let line = write_entry(rt.alloc(), wave)?;
-    assert_eq!(rt; line.bytes(), b"0 0 wave 3".as_slice());
-    Ok(())
-}
-
-/// A wave that lists so many games.
-fn long_wave(alloc: Global, games: u32) -> Result<String, AllocError> {
-    let mut line = String::from_str(alloc, "wave 3")?;
-    for _ in 0..games {
-        line.push_str(" 1-2")?;
-    }
-    changed(alloc, LISTED, "wave 3 1-2 3-0", line.as_str())
-}
-
-#[test]
-fn a_wave_lists_at_most_500_games(rt: HostRuntime) -> Result<(), Fail> {
-    let most = long_wave(rt.alloc(), 500)?;
-    assert!(rt; read_journal(rt.alloc(), most.as_bytes()).is_ok());
-    let more = long_wave(rt.alloc(), 501)?;
-    assert_eq!(rt;
-        refusal(rt.alloc(), more.as_bytes()),
-        Some((13, JournalCause::Range))
-    );
-    Ok(())
-}
-
-#[test]
-fn teams_are_read(rt: HostRuntime) -> Result<(), Fail> {
-    let journal = read_journal(rt.alloc(), BATTLE.as_bytes())
-        .ok()
-        .ok_or("the text is a journal's")?;
-    let names: [&str; 2] = ["Red", "Blue"];
-    for (team, name) in journal.setup.teams.items().iter().zip(names.iter()) {
-        assert_eq!(rt; team.bytes(), name.as_bytes());
-    }
-    let wanted = [
-        ("Red", 400, Some(1)),
-        ("b_B-9", 4000, Some(0)),
-        ("carol", 2100, None),
-    ];
-    for (player, (name, rating, team)) in journal.setup.players.items().iter().zip(wanted.iter()) {
-        assert_eq!(rt; player.name.bytes(), name.as_bytes());
-        assert_eq!(rt; (player.rating, player.team), (*rating, *team));
-    }
-    Ok(())
-}
-
-/// A text with so many teams and players, each of whom enters and pauses in turn, for so many entries.
-fn long_text(alloc: Global, teams: u32, players: u32, entries: u32) -> Result<String, AllocError> {
-    let mut text = String::from_str(
-        alloc,
-        "arena 1\ncontrol 180 2 20000\nwindow 0 3600000\nwave 5000\nleaders 1\n",
-    )?;
-    for t in 0..teams {
-        write!(text, "team team{t}\n")?;
-    }
-    for p in 0..players {
-        write!(text, "player 1500 - player{p}\n")?;
-    }
-    text.push_str("begin\n")?;
-    for e in 0..entries {
-        let player = e % players.max(1);
-        if e / players.max(1) % 2 == 0 {
-            write!(text, "{e} 0 enter {player}\n")?;
-        } else {
-            write!(text, "{e} 0 pause {player}\n")?;
-        }
-    }
-    text.push_str("end\n")?;
-    Ok(text)
-}
-
-#[test]
-fn counts_have_their_ends(rt: HostRuntime) -> Result<(), Fail> {
-    for (teams, players, entries) in [(100, 1000, 2000), (0, 1000, 100_000)] {
-        let text = long_text(rt.alloc(), teams, players, entries)?;
-        let journal = read_journal(rt.alloc(), text.as_bytes())
-            .ok()
-            .ok_or("the text is a journal's")?;
-        assert_eq!(rt; journal.setup.teams.items().len(), teams as usize);
-        assert_eq!(rt; journal.setup.players.items().len(), players as usize);
-        assert_eq!(rt; journal.entries.items().len(), entries as usize);
-    }
-    let text = long_text(rt.alloc(), 101, 1, 0)?;
-    assert_eq!(rt;
-        refusal(rt.alloc(), text.as_bytes()),
-        Some((106, JournalCause::Range))
-    );
-    let text = long_text(rt.alloc(), 1, 1001, 0)?;
-    assert_eq!(rt;
-        refusal(rt.alloc(), text.as_bytes()),
-        Some((1007, JournalCause::Range))
-    );
-    // One line too many is named before its name, which stood before.
-    let text = changed(rt.alloc(), text.as_str(), "player1000\n", "player0\n")?;
-    assert_eq!(rt;
-        refusal(rt.alloc(), text.as_bytes()),
-        Some((1007, JournalCause::Range))
-    );
-    Ok(())
+    check(&rt, rt.alloc(), EVENING, &ENDS)
 }

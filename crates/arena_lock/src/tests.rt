@@ -1,6 +1,7 @@
 ghost use Rattle.std.specs.Prelude.{◌≡◌, ◌≤◌, ◌<◌, ◌∷◌, [], All, IfOk, length};
 ghost use Rattle.entries.specs.Ranges.{IsGood};
 ghost use Rattle.arena_lock.specs.Turns.{IsReady};
+ghost use Rattle.arena_rules.specs.Commands.{IsCommandOf};
 ghost use Rattle.arena_rules.specs.Commits.{IsPlanOf};
 
 mod commits;
@@ -89,13 +90,35 @@ pub fn opened(alloc: Global, setup: Setup, passes: u32) -> Result<(Lobby, Vec<Pa
     Lobby::new(alloc, arena, passes)
 }
 
+/// A lobby of one pass, in which nothing happened yet, and that pass.
+pub fn opened_for_one(alloc: Global, setup: Setup) -> Result<(Lobby, Pass), AllocError>
+    requires good { IsGood setup }
+    ensures setup { IfOk result (λ r. r.0.fixed ≡ setup) }
+    ensures ready { IfOk result (λ r. IsReady r.0 r.1) }
+{
+    let (lobby, mut passes) = opened(alloc, setup, 1)?;
+    match passes.pop() {
+        Some(pass) => Ok((lobby, pass)),
+        None => Err(AllocError),
+    }
+}
+
+/// Whether a command is accepted.
+pub fn does<R: Wait>(rt: &R, lobby: &Lobby, pass: &mut Pass, now: u64, command: Command) -> bool
+    requires command { IsCommandOf (length lobby.now.fixed.players) command }
+    requires ready { IsReady lobby.now pass.old }
+    ensures ready { IsReady lobby.now pass.new }
+{
+    lobby.command(rt, pass, now, command).is_ok()
+}
+
 /// Whether a player's entering is accepted.
 pub fn enter<R: Wait>(rt: &R, lobby: &Lobby, pass: &mut Pass, player: u32) -> bool
     requires ready { IsReady lobby.now pass.old }
     requires player { player < length lobby.now.fixed.players }
     ensures ready { IsReady lobby.now pass.new }
 {
-    lobby.command(rt, pass, 0, Command::Enter(player)).is_ok()
+    does(rt, lobby, pass, 0, Command::Enter(player))
 }
 
 /// The plan of a snapshot. The snapshot takes a turn, and the planning none.

@@ -31,18 +31,31 @@ fn keys_of_players(setup: &Setup, keys: &Keys)
     ensures players { AreKeysOfPlayers (length setup.now.players) keys.now }
 {}
 
+/// A setup and its keys, if it is one of four players.
+fn of_four(setup: Setup, keys: Keys) -> Result<(Setup, Keys), AllocError>
+    requires good { IsGood setup }
+    requires own { AreKeysOf (length setup.players) keys }
+    ensures good { IfOk result (λ r. IsGood r.0) }
+    ensures four { IfOk result (λ r. length r.0.players ≡ 4) }
+    ensures keys { IfOk result (λ r. AreKeysOfPlayers 4 r.1) }
+{
+    keys_of_players(&setup, &keys);
+    if setup.players.items().len() == 4 {
+        Ok((setup, keys))
+    } else {
+        Err(AllocError)
+    }
+}
+
 /// The setup of alice, bob, carol and dave, and their keys.
 pub fn evening(alloc: Global) -> Result<(Setup, Keys), AllocError>
     ensures good { IfOk result (λ r. IsGood r.0) }
     ensures four { IfOk result (λ r. length r.0.players ≡ 4) }
-    ensures keys { IfOk result (λ r. AreKeysOfPlayers (length r.0.players) r.1) }
+    ensures keys { IfOk result (λ r. AreKeysOfPlayers 4 r.1) }
 {
     match read_setup(alloc, SETUP) {
-        Ok((setup, keys)) if setup.players.items().len() == 4 => {
-            keys_of_players(&setup, &keys);
-            Ok((setup, keys))
-        }
-        _ => Err(AllocError),
+        Ok((setup, keys)) => of_four(setup, keys),
+        Err(_) => Err(AllocError),
     }
 }
 
@@ -52,11 +65,19 @@ pub fn opened(alloc: Global, setup: Setup, passes: u32) -> Result<(Lobby, Vec<Pa
     requires some { (1 ≤ passes) × (passes ≤ 256) }
     ensures setup { IfOk result (λ r. r.0.fixed ≡ setup) }
     ensures number { IfOk result (λ r. r.0.passes ≡ passes) }
-    ensures len { IfOk result (λ r. length r.1.items ≡ passes) }
     ensures ready { IfOk result (λ r. All (IsReady r.0) r.1.items) }
 {
     let arena = Arena::new(alloc, setup)?;
     Lobby::new(alloc, arena, passes)
+}
+
+/// Whether a player's entering is accepted.
+pub fn enter<R: Wait>(rt: &R, lobby: &Lobby, pass: &mut Pass, now: u64, player: u32) -> bool
+    requires player { player < length lobby.now.fixed.players }
+    requires ready { IsReady lobby.now pass.old }
+    ensures ready { IsReady lobby.now pass.new }
+{
+    lobby.command(rt, pass, now, Command::Enter(player)).is_ok()
 }
 
 /// The plan of a snapshot at 1000. The snapshot takes a turn, and the planning none.
@@ -78,6 +99,22 @@ fn planned<R: Threads + Wait + Sync>(
     plan(rt, alloc, solvers.as_mut_slice(), &snapshot)
 }
 
+/// Whether the first wave, at 1000, starts one game.
+fn start_one<R: Threads + Wait + Sync>(
+    rt: &R,
+    alloc: Global,
+    lobby: &Lobby,
+    pass: &mut Pass,
+) -> Result<bool, AllocError>
+    requires good { IsGood lobby.now.fixed }
+    requires ready { IsReady lobby.now pass.old }
+    ensures ready { IsReady lobby.now pass.new }
+{
+    let plan = planned(rt, alloc, lobby, pass)?;
+    let started = lobby.commit(rt, alloc, pass, 1_000, &plan);
+    Ok(started == Ok(1))
+}
+
 /// Alice and bob enter at 0, and the first wave begins their game, alice with White, at 1000. That are three entries.
 pub fn begin_game<R: Threads + Wait + Sync>(
     rt: &R,
@@ -90,9 +127,8 @@ pub fn begin_game<R: Threads + Wait + Sync>(
     requires ready { IsReady lobby.now pass.old }
     ensures ready { IsReady lobby.now pass.new }
 {
-    let alice = lobby.command(rt, pass, 0, Command::Enter(0)).is_ok();
-    let bob = lobby.command(rt, pass, 0, Command::Enter(1)).is_ok();
-    let plan = planned(rt, alloc, lobby, pass)?;
-    let started = lobby.commit(rt, alloc, pass, 1_000, &plan);
-    Ok(alice && bob && started == Ok(1))
+    let alice = enter(rt, lobby, pass, 0, 0);
+    let bob = enter(rt, lobby, pass, 0, 1);
+    let started = start_one(rt, alloc, lobby, pass)?;
+    Ok(alice && bob && started)
 }

@@ -1,15 +1,16 @@
 ghost use Rattle.std.specs.Prelude.{◌≡◌, length};
+ghost use Rattle.entries.specs.Ranges.{IsGood};
 ghost use Rattle.arena_lock.specs.Turns.{IsReady};
 ghost use Rattle.arena_rules.specs.Commits.{IsPlanOf};
 
-use super::{duel, enter, one_team, opened, planned};
+use super::{duel, enter, one_team, opened_for_one, planned};
 use crate::{Lobby, Pass};
 use arena_core::CommitFault;
 use arena_rules::plans_of_entries;
 use std::alloc::{AllocError, Global};
-use std::process::Abort;
 use std::sync::Wait;
 use std::test::Fail;
+use std::thread::Threads;
 use wave::Plan;
 
 /// What a commit of a plan is answered. The plan is afterwards still one of what the pass has seen.
@@ -47,19 +48,38 @@ fn commit_thrice<R: Wait>(
     [first, again, late]
 }
 
+/// Both players enter, their plan is committed thrice, and so many entries the pass has then seen.
+fn enter_and_commit<R: Threads + Wait + Sync>(
+    rt: &R,
+    alloc: Global,
+    lobby: &Lobby,
+    pass: &mut Pass,
+) -> Result<(bool, [Result<u32, CommitFault>; 3], u64), AllocError>
+    requires good { IsGood lobby.now.fixed }
+    requires two { length lobby.now.fixed.players ≡ 2 }
+    requires ready { IsReady lobby.now pass.old }
+{
+    let both = enter(rt, lobby, pass, 0) && enter(rt, lobby, pass, 1);
+    let plan = planned(rt, alloc, lobby, pass)?;
+    let answers = commit_thrice(rt, alloc, lobby, pass, &plan);
+    Ok((both, answers, pass.seen()))
+}
+
+/// What alice and bob come to.
+fn of_two<R: Threads + Wait + Sync>(
+    rt: &R,
+    alloc: Global,
+) -> Result<(bool, [Result<u32, CommitFault>; 3], u64), AllocError> {
+    let (lobby, mut pass) = opened_for_one(alloc, duel(alloc)?)?;
+    enter_and_commit(rt, alloc, &lobby, &mut pass)
+}
+
 #[test]
 fn a_plan_is_committed_once_and_not_past_the_end(rt: HostRuntime) -> Result<(), Fail> {
-    let alloc = rt.alloc();
-    let (lobby, mut passes) = opened(alloc, duel(alloc)?, 1)?;
-    let Some(mut pass) = passes.pop() else {
-        return Err(Fail::from(AllocError));
-    };
-    let both = enter(&rt, &lobby, &mut pass, 0) && enter(&rt, &lobby, &mut pass, 1);
+    let (both, answers, seen) = of_two(&rt, rt.alloc())?;
     assert!(rt; both);
-    let plan = planned(&rt, alloc, &lobby, &mut pass)?;
-    let answers = commit_thrice(&rt, alloc, &lobby, &mut pass, &plan);
     assert_eq!(rt; answers, [Ok(1), Ok(0), Err(CommitFault::Closed)]);
-    assert_eq!(rt; pass.seen(), 3);
+    assert_eq!(rt; seen, 3);
     Ok(())
 }
 
@@ -78,18 +98,34 @@ fn enter_all<R: Wait>(rt: &R, lobby: &Lobby, pass: &mut Pass) -> u32
     entered
 }
 
+/// All four enter: how many could, what the commit of their plan is answered, and how many entries the pass has then seen.
+fn enter_all_and_commit<R: Threads + Wait + Sync>(
+    rt: &R,
+    alloc: Global,
+    lobby: &Lobby,
+    pass: &mut Pass,
+) -> Result<(u32, Result<u32, CommitFault>, u64), AllocError>
+    requires good { IsGood lobby.now.fixed }
+    requires four { length lobby.now.fixed.players ≡ 4 }
+    requires ready { IsReady lobby.now pass.old }
+{
+    let entered = enter_all(rt, lobby, pass);
+    let plan = planned(rt, alloc, lobby, pass)?;
+    let committed = lobby.commit(rt, alloc, pass, 1_000, &plan);
+    Ok((entered, committed, pass.seen()))
+}
+
+/// What four players of one team come to.
+fn of_one_team<R: Threads + Wait + Sync>(
+    rt: &R,
+    alloc: Global,
+) -> Result<(u32, Result<u32, CommitFault>, u64), AllocError> {
+    let (lobby, mut pass) = opened_for_one(alloc, one_team(alloc)?)?;
+    enter_all_and_commit(rt, alloc, &lobby, &mut pass)
+}
+
 #[test]
 fn a_plan_without_pairs_starts_nothing(rt: HostRuntime) -> Result<(), Fail> {
-    let alloc = rt.alloc();
-    let (lobby, mut passes) = opened(alloc, one_team(alloc)?, 1)?;
-    let Some(mut pass) = passes.pop() else {
-        return Err(Fail::from(AllocError));
-    };
-    let entered = enter_all(&rt, &lobby, &mut pass);
-    assert_eq!(rt; entered, 4);
-    let plan = planned(&rt, alloc, &lobby, &mut pass)?;
-    let committed = lobby.commit(&rt, alloc, &mut pass, 1_000, &plan);
-    assert_eq!(rt; committed, Ok(0));
-    assert_eq!(rt; pass.seen(), 4);
+    assert_eq!(rt; of_one_team(&rt, rt.alloc())?, (4, Ok(0), 4));
     Ok(())
 }

@@ -2,7 +2,7 @@
 
 use super::wires::{WHOLE, Wanted, Wires, in_game_comes_to};
 use crate::Ended;
-use std::alloc::Global;
+use std::alloc::{AllocError, Global};
 use std::process::Abort;
 use std::sync::Wait;
 use std::test::Fail;
@@ -33,7 +33,7 @@ const fn moved(ended: Ended, text: &[u8]) -> Wanted<'_> {
 }
 
 /// In pieces of any size the answer is the same.
-fn in_pieces<R: Threads + Wait + Abort + Sync>(rt: &R, alloc: Global) -> Result<(), Fail> {
+fn in_pieces<R: Threads + Wait + Abort + Sync>(rt: &R, alloc: Global) -> Result<(), AllocError> {
     let wanted = moved(Ended::Served, MOVED);
     for read_piece in 1..9 {
         let wires = Wires {
@@ -46,7 +46,10 @@ fn in_pieces<R: Threads + Wait + Abort + Sync>(rt: &R, alloc: Global) -> Result<
 }
 
 /// Each byte is a read, of which one fails: while the request is not whole, nothing is written, and behind it all stands.
-fn failing_reads<R: Threads + Wait + Abort + Sync>(rt: &R, alloc: Global) -> Result<(), Fail> {
+fn failing_reads<R: Threads + Wait + Abort + Sync>(
+    rt: &R,
+    alloc: Global,
+) -> Result<(), AllocError> {
     for read in 0..=MOVE.len() as u64 {
         let wires = Wires {
             read_piece: 1,
@@ -64,7 +67,10 @@ fn failing_reads<R: Threads + Wait + Abort + Sync>(rt: &R, alloc: Global) -> Res
 }
 
 /// A write takes seven bytes, and one fails: those before it stand, and the move is made.
-fn failing_writes<R: Threads + Wait + Abort + Sync>(rt: &R, alloc: Global) -> Result<(), Fail> {
+fn failing_writes<R: Threads + Wait + Abort + Sync>(
+    rt: &R,
+    alloc: Global,
+) -> Result<(), AllocError> {
     for write in 0..MOVED.len().div_ceil(7) {
         let wires = Wires {
             write_piece: 7,
@@ -78,7 +84,7 @@ fn failing_writes<R: Threads + Wait + Abort + Sync>(rt: &R, alloc: Global) -> Re
 }
 
 /// The source ends within the request.
-fn cut<R: Threads + Wait + Abort + Sync>(rt: &R, alloc: Global) -> Result<(), Fail> {
+fn cut<R: Threads + Wait + Abort + Sync>(rt: &R, alloc: Global) -> Result<(), AllocError> {
     for count in 1..MOVE.len() {
         in_game_comes_to(rt, alloc, &MOVE[..count], &WHOLE, &nothing(Ended::CutOff))?;
     }
@@ -87,11 +93,15 @@ fn cut<R: Threads + Wait + Abort + Sync>(rt: &R, alloc: Global) -> Result<(), Fa
     in_game_comes_to(rt, alloc, b"\r\n", &WHOLE, &served)
 }
 
+/// In pieces, with a fault at each place and cut at each place.
+fn in_all_ways<R: Threads + Wait + Abort + Sync>(rt: &R, alloc: Global) -> Result<(), AllocError> {
+    in_pieces(rt, alloc)?;
+    failing_reads(rt, alloc)?;
+    failing_writes(rt, alloc)?;
+    cut(rt, alloc)
+}
+
 #[test]
 fn a_request_is_answered_whole_or_by_a_beginning(rt: HostRuntime) -> Result<(), Fail> {
-    let alloc = rt.alloc();
-    in_pieces(&rt, alloc)?;
-    failing_reads(&rt, alloc)?;
-    failing_writes(&rt, alloc)?;
-    cut(&rt, alloc)
+    Ok(in_all_ways(&rt, rt.alloc())?)
 }

@@ -45,6 +45,12 @@ const CASES: [Case; 6] = [
     ),
 ];
 
+/// The response with an error, behind which the connection is closed.
+fn refusal(alloc: Global, words: &str, name: &str) -> Result<String, AllocError> {
+    let body = format!(in alloc; "{{\"error\":\"{name}\"}}")?;
+    response(alloc, words, 3, "Connection: close\r\n", body.as_str())
+}
+
 /// The error is answered, nothing is read behind it, and no entry is made.
 fn is_refused<R: Threads + Wait + Abort + Sync>(
     rt: &R,
@@ -53,9 +59,8 @@ fn is_refused<R: Threads + Wait + Abort + Sync>(
     words: &str,
     name: &str,
     ended: Ended,
-) -> Result<(), Fail> {
-    let body = format!(in alloc; "{{\"error\":\"{name}\"}}")?;
-    let text = response(alloc, words, 3, "Connection: close\r\n", body.as_str())?;
+) -> Result<(), AllocError> {
+    let text = refusal(alloc, words, name)?;
     let wanted = Wanted {
         ended,
         text: text.as_bytes(),
@@ -77,57 +82,81 @@ fn with_fields(alloc: Global, fields: u32) -> Result<Vec<u8>, AllocError> {
     Ok(bytes)
 }
 
-/// 64 fields are answered, and 65 are no head.
-fn fields<R: Threads + Wait + Abort + Sync>(rt: &R, alloc: Global) -> Result<(), Fail> {
-    let most = with_fields(alloc, 64)?;
-    let more = with_fields(alloc, 65)?;
+/// 64 fields are answered.
+fn most_fields<R: Threads + Wait + Abort + Sync>(rt: &R, alloc: Global) -> Result<(), AllocError> {
     let text = response(alloc, "200 OK", 3, "", ARENA)?;
     let wanted = Wanted {
         ended: Ended::Served,
         text: text.as_bytes(),
         entries: 3,
     };
-    in_game_comes_to(rt, alloc, most.as_slice(), &WHOLE, &wanted)?;
+    let bytes = with_fields(alloc, 64)?;
+    in_game_comes_to(rt, alloc, bytes.as_slice(), &WHOLE, &wanted)
+}
+
+/// 65 fields are no head.
+fn more_fields<R: Threads + Wait + Abort + Sync>(rt: &R, alloc: Global) -> Result<(), AllocError> {
+    let bytes = with_fields(alloc, 65)?;
     is_refused(
         rt,
         alloc,
-        more.as_slice(),
+        bytes.as_slice(),
         "400 Bad Request",
         "BadHead",
         Ended::BadHead,
     )
 }
 
-/// Of more requests than a hundred, a hundred are answered, the last of them with its Connection field.
-fn hundred<R: Threads + Wait + Abort + Sync>(rt: &R, alloc: Global) -> Result<(), Fail> {
-    let request = b"GET /api/arena HTTP/1.1\r\n\r\n";
-    let bytes = times(alloc, 100, request, request)?;
+/// A head of 8192 bytes without an end is too long.
+fn long_head<R: Threads + Wait + Abort + Sync>(rt: &R, alloc: Global) -> Result<(), AllocError> {
+    let bytes = Vec::from_elem(alloc, b'a', 8192)?;
+    is_refused(
+        rt,
+        alloc,
+        bytes.as_slice(),
+        "431 Request Header Fields Too Large",
+        "HeadTooLong",
+        Ended::TooLong,
+    )
+}
+
+/// A hundred responses, the last of them with its Connection field.
+fn hundred_responses(alloc: Global) -> Result<Vec<u8>, AllocError> {
     let plain = response(alloc, "200 OK", 3, "", ARENA)?;
     let last = response(alloc, "200 OK", 3, "Connection: close\r\n", ARENA)?;
-    let text = times(alloc, 99, plain.as_bytes(), last.as_bytes())?;
+    times(alloc, 99, plain.as_bytes(), last.as_bytes())
+}
+
+/// Of more requests than a hundred, a hundred are answered.
+fn hundred<R: Threads + Wait + Abort + Sync>(rt: &R, alloc: Global) -> Result<(), AllocError> {
+    let text = hundred_responses(alloc)?;
     let wanted = Wanted {
         ended: Ended::Limit,
         text: text.as_slice(),
         entries: 3,
     };
+    let request = b"GET /api/arena HTTP/1.1\r\n\r\n";
+    let bytes = times(alloc, 100, request, request)?;
     in_game_comes_to(rt, alloc, bytes.as_slice(), &WHOLE, &wanted)
+}
+
+/// Each of the cases is refused.
+fn cases<R: Threads + Wait + Abort + Sync>(rt: &R, alloc: Global) -> Result<(), AllocError> {
+    for (bytes, words, name, ended) in CASES {
+        is_refused(rt, alloc, bytes, words, name, ended)?;
+    }
+    Ok(())
+}
+
+fn all<R: Threads + Wait + Abort + Sync>(rt: &R, alloc: Global) -> Result<(), AllocError> {
+    cases(rt, alloc)?;
+    long_head(rt, alloc)?;
+    most_fields(rt, alloc)?;
+    more_fields(rt, alloc)?;
+    hundred(rt, alloc)
 }
 
 #[test]
 fn heads_are_refused_and_a_hundred_requests_are_answered(rt: HostRuntime) -> Result<(), Fail> {
-    let alloc = rt.alloc();
-    for (bytes, words, name, ended) in CASES {
-        is_refused(&rt, alloc, bytes, words, name, ended)?;
-    }
-    let long = Vec::from_elem(alloc, b'a', 8192)?;
-    is_refused(
-        &rt,
-        alloc,
-        long.as_slice(),
-        "431 Request Header Fields Too Large",
-        "HeadTooLong",
-        Ended::TooLong,
-    )?;
-    fields(&rt, alloc)?;
-    hundred(&rt, alloc)
+    Ok(all(&rt, rt.alloc())?)
 }

@@ -260,34 +260,45 @@ const IN_GAME: [Case; 25] = [
     ),
 ];
 
+/// Puts the bytes of a request behind others.
+fn put_request(text: &mut String, request: &str, key: &str) -> Result<(), AllocError> {
+    text.push_str(request)?;
+    text.push_str(" HTTP/1.1\r\n")?;
+    if !key.is_empty() {
+        text.push_str("Authorization: Bearer ")?;
+        text.push_str(key)?;
+        text.push_str("\r\n")?;
+    }
+    text.push_str("\r\n")
+}
+
 /// The bytes of all requests.
 fn requests(alloc: Global, cases: &[Case]) -> Result<String, AllocError> {
     let mut text = String::new(alloc);
     for (request, key, ..) in cases {
-        text.push_str(request)?;
-        text.push_str(" HTTP/1.1\r\n")?;
-        if !key.is_empty() {
-            text.push_str("Authorization: Bearer ")?;
-            text.push_str(key)?;
-            text.push_str("\r\n")?;
-        }
-        text.push_str("\r\n")?;
+        put_request(&mut text, request, key)?;
     }
     Ok(text)
+}
+
+/// Puts the bytes of a case's response behind others.
+fn put_response(alloc: Global, text: &mut String, case: &Case) -> Result<(), AllocError> {
+    let (_, _, words, seen, lines, body) = *case;
+    let one = response(alloc, words, seen, lines, body)?;
+    text.push_str(one.as_str())
 }
 
 /// The bytes of all responses.
 fn responses(alloc: Global, cases: &[Case]) -> Result<String, AllocError> {
     let mut text = String::new(alloc);
-    for (_, _, words, seen, lines, body) in cases {
-        let one = response(alloc, words, *seen, lines, body)?;
-        text.push_str(one.as_str())?;
+    for case in cases {
+        put_response(alloc, &mut text, case)?;
     }
     Ok(text)
 }
 
 /// Before anything happened, the requests are answered like this.
-fn at_first<R: Wait + Abort>(rt: &R, alloc: Global) -> Result<(), Fail> {
+fn at_first<R: Wait + Abort>(rt: &R, alloc: Global) -> Result<(), AllocError> {
     let text = responses(alloc, &FIRST)?;
     let wanted = Wanted {
         ended: Ended::Served,
@@ -299,7 +310,7 @@ fn at_first<R: Wait + Abort>(rt: &R, alloc: Global) -> Result<(), Fail> {
 }
 
 /// In the game, the requests are answered like this.
-fn in_game<R: Threads + Wait + Abort + Sync>(rt: &R, alloc: Global) -> Result<(), Fail> {
+fn in_game<R: Threads + Wait + Abort + Sync>(rt: &R, alloc: Global) -> Result<(), AllocError> {
     let text = responses(alloc, &IN_GAME)?;
     let wanted = Wanted {
         ended: Ended::Served,
@@ -310,9 +321,12 @@ fn in_game<R: Threads + Wait + Abort + Sync>(rt: &R, alloc: Global) -> Result<()
     in_game_comes_to(rt, alloc, bytes.as_bytes(), &WHOLE, &wanted)
 }
 
+fn both<R: Threads + Wait + Abort + Sync>(rt: &R, alloc: Global) -> Result<(), AllocError> {
+    at_first(rt, alloc)?;
+    in_game(rt, alloc)
+}
+
 #[test]
 fn requests_are_answered_one_after_another(rt: HostRuntime) -> Result<(), Fail> {
-    let alloc = rt.alloc();
-    at_first(&rt, alloc)?;
-    in_game(&rt, alloc)
+    Ok(both(&rt, rt.alloc())?)
 }

@@ -1,16 +1,16 @@
 //! Connections side by side.
 
-ghost use Rattle.std.specs.Prelude.{◌≡◌, All, IfOk, IfSome, length};
+ghost use Rattle.std.specs.Prelude.{◌≡◌, ◌<◌, ◌-◌, ◌^◌, All, IfOk, IfSome, length};
 ghost use Rattle.entries.specs.Ranges.{IsGood};
 ghost use Rattle.arena_lock.specs.Turns.{IsReady};
 ghost use Rattle.host.specs.Asked.{AreKeysOfPlayers};
 
 use super::wires::{Line, WHOLE, connection, response, serve, times};
-use super::{begin_game, evening, opened};
+use super::{begin_game, enter, evening, opened};
 use crate::Ended;
-use arena_core::{Arena, Command};
+use arena_core::Arena;
 use arena_lock::{Lobby, Pass};
-use entries::{Action, What};
+use entries::{Action, Entry, Setup, What};
 use setup_file::Keys;
 use std::alloc::{AllocError, Global};
 use std::process::Abort;
@@ -35,20 +35,31 @@ fn keys(alloc: Global) -> Result<Keys, AllocError>
     Ok(keys)
 }
 
-/// Serves a connection on a pass of a lobby over the four players. Each thread reads their keys for itself.
+/// Serves a connection on a pass of a lobby over the four players, whose keys it reads for itself.
+fn served_by_own_keys<R: Wait>(
+    rt: &R,
+    alloc: Global,
+    lobby: &Lobby,
+    pass: &mut Pass,
+    line: &mut Line,
+) -> Ended
+    requires ready { IsReady lobby.now pass.old }
+    requires four { length lobby.now.fixed.players ≡ 4 }
+    ensures ready { IsReady lobby.now pass.new }
+{
+    match keys(alloc) {
+        Ok(keys) => serve(rt, alloc, lobby, &keys, pass, line),
+        Err(_) => Ended::OutOfMemory,
+    }
+}
+
+/// What a thread does.
 fn served<R: Wait>(rt: &R, alloc: Global, lobby: &Lobby, mut pass: Pass, mut line: Line) -> Worked
     requires ready { IsReady lobby.now pass }
     requires four { length lobby.now.fixed.players ≡ 4 }
     ensures ready { IsReady lobby.now result.pass }
 {
-    let Ok(keys) = keys(alloc) else {
-        return Worked {
-            pass,
-            line,
-            ended: Ended::OutOfMemory,
-        };
-    };
-    let ended = serve(rt, alloc, lobby, &keys, &mut pass, &mut line);
+    let ended = served_by_own_keys(rt, alloc, lobby, &mut pass, &mut line);
     Worked { pass, line, ended }
 }
 
@@ -105,16 +116,29 @@ fn body(what: What) -> &'static str {
     }
 }
 
-/// What the responses to a pass's accepted commands are by the journal: each was seen with the entry that it made as the last.
+/// Puts the response to the command that entry `i` came from behind others, if it is the pass's. It was seen as the last.
+fn put_response(
+    alloc: Global,
+    text: &mut String,
+    i: u64,
+    entry: Entry,
+    pass: u32,
+) -> Result<(), AllocError>
+    requires fits { i < 2 ^ 64 - 1 }
+{
+    if entry.pass != pass {
+        return Ok(());
+    }
+    let one = response(alloc, "200 OK", i + 1, "", body(entry.what))?;
+    text.push_str(one.as_str())
+}
+
+/// What the responses to a pass's accepted commands are by the journal.
 fn responses(alloc: Global, journal: &Arena, pass: u32) -> Result<String, AllocError> {
     let mut text = String::new(alloc);
     for i in 5..journal.len() {
-        match journal.entry(i) {
-            Some(entry) if entry.pass == pass => {
-                let one = response(alloc, "200 OK", i + 1, "", body(entry.what))?;
-                text.push_str(one.as_str())?;
-            }
-            _ => {}
+        if let Some(entry) = journal.entry(i) {
+            put_response(alloc, &mut text, i, entry, pass)?;
         }
     }
     Ok(text)
@@ -132,14 +156,19 @@ fn up_to_an_act(journal: &Arena) -> Option<u64> {
     None
 }
 
+/// The bytes are the response with the standing behind the game, seen at this length of the journal.
+fn is_standing(alloc: Global, seen: u64, bytes: &[u8]) -> Result<bool, AllocError> {
+    let one = response(alloc, "200 OK", seen, "", STANDING)?;
+    Ok(one.as_bytes() == bytes)
+}
+
 /// The bytes are the response with the standing behind the game, at some length of the journal that has the game's end.
 fn show_standing(alloc: Global, journal: &Arena, bytes: &[u8]) -> Result<bool, AllocError> {
     let Some(least) = up_to_an_act(journal) else {
         return Ok(false);
     };
     for seen in least..=journal.len() {
-        let one = response(alloc, "200 OK", seen, "", STANDING)?;
-        if one.as_bytes() == bytes {
+        if is_standing(alloc, seen, bytes)? {
             return Ok(true);
         }
     }
@@ -158,6 +187,21 @@ fn first_is_right<R: Abort>(
     Ok(())
 }
 
+/// How many of the bytes are the responses to the pass's commands, if they begin with these.
+fn answered(
+    alloc: Global,
+    journal: &Arena,
+    pass: u32,
+    bytes: &[u8],
+) -> Result<Option<usize>, AllocError> {
+    let text = responses(alloc, journal, pass)?;
+    if bytes.starts_with(text.as_bytes()) {
+        Ok(Some(text.len()))
+    } else {
+        Ok(None)
+    }
+}
+
 /// Pass 1 was answered for its commands, and then with the standing.
 fn second_is_right<R: Abort>(
     rt: &R,
@@ -165,8 +209,10 @@ fn second_is_right<R: Abort>(
     journal: &Arena,
     bytes: &[u8],
 ) -> Result<(), AllocError> {
-    let text = responses(alloc, journal, 1)?;
-    let Some(rest) = bytes.strip_prefix(text.as_bytes()) else {
+    let Some(count) = answered(alloc, journal, 1, bytes)? else {
+        return Err(AllocError);
+    };
+    let Some(rest) = bytes.get(count..) else {
         return Err(AllocError);
     };
     let shown = show_standing(alloc, journal, rest)?;
@@ -184,15 +230,37 @@ fn both(lobby: &Lobby, mut passes: Vec<Pass>) -> Option<(Pass, Pass)>
     Some((first, second))
 }
 
-/// Carol and dave enter.
-fn enter_others<R: Wait>(rt: &R, lobby: &Lobby, pass: &mut Pass) -> bool
+/// The game of alice and bob begins, and carol and dave enter.
+fn begin<R: Threads + Wait + Sync>(rt: &R, alloc: Global, lobby: &Lobby, pass: &mut Pass) -> bool
+    requires good { IsGood lobby.now.fixed }
     requires four { length lobby.now.fixed.players ≡ 4 }
     requires ready { IsReady lobby.now pass.old }
     ensures ready { IsReady lobby.now pass.new }
 {
-    let carol = lobby.command(rt, pass, 1_000, Command::Enter(2)).is_ok();
-    let dave = lobby.command(rt, pass, 1_000, Command::Enter(3)).is_ok();
-    carol && dave
+    let began = begin_game(rt, alloc, lobby, pass);
+    let carol = enter(rt, lobby, pass, 1_000, 2);
+    let dave = enter(rt, lobby, pass, 1_000, 3);
+    began == Ok(true) && carol && dave
+}
+
+/// The two passes of a lobby in which all is begun.
+fn begun<R: Threads + Wait + Sync>(
+    rt: &R,
+    alloc: Global,
+    lobby: &Lobby,
+    passes: Vec<Pass>,
+) -> Option<(Pass, Pass)>
+    requires good { IsGood lobby.now.fixed }
+    requires four { length lobby.now.fixed.players ≡ 4 }
+    requires ready { All (IsReady lobby.now) passes.items }
+    ensures ready { IfSome result (λ r. IsReady lobby.now r.0 × IsReady lobby.now r.1) }
+{
+    let (mut first, second) = both(lobby, passes)?;
+    if begin(rt, alloc, lobby, &mut first) {
+        Some((first, second))
+    } else {
+        None
+    }
 }
 
 const CAROL: &[u8] =
@@ -235,16 +303,11 @@ fn talked<R: Threads + Wait + Sync>(
     ensures first { IfOk result (λ r. IsReady lobby.now r.0.pass) }
     ensures second { IfOk result (λ r. IsReady lobby.now r.1.pass) }
 {
-    let lines = connections(alloc)?;
-    let Some((mut first, second)) = both(lobby, passes) else {
+    let Some(passes) = begun(rt, alloc, lobby, passes) else {
         return Err(AllocError);
     };
-    let began = begin_game(rt, alloc, lobby, &mut first);
-    if began == Ok(true) && enter_others(rt, lobby, &mut first) {
-        Ok(both_served(rt, alloc, lobby, (first, second), lines))
-    } else {
-        Err(AllocError)
-    }
+    let lines = connections(alloc)?;
+    Ok(both_served(rt, alloc, lobby, passes, lines))
 }
 
 /// The lobby is closed, once both connections are served.
@@ -268,25 +331,40 @@ fn closed(
     })
 }
 
+/// The setup of the four players.
+fn setup(alloc: Global) -> Result<Setup, AllocError>
+    ensures good { IfOk result IsGood }
+    ensures four { IfOk result (λ setup. length setup.players ≡ 4) }
+{
+    let (setup, _keys) = evening(alloc)?;
+    Ok(setup)
+}
+
 /// Two connections side by side, from the first entry to the journal that is left.
 fn two_connections<R: Threads + Wait + Sync>(
     rt: &R,
     alloc: Global,
 ) -> Result<Transcript, AllocError> {
-    let (setup, _) = evening(alloc)?;
-    let (lobby, passes) = opened(alloc, setup, 2)?;
+    let (lobby, passes) = opened(alloc, setup(alloc)?, 2)?;
     let (first, second) = talked(rt, alloc, &lobby, passes)?;
     closed(alloc, lobby, first, second)
 }
 
-/// Each response of two connections side by side is that of its place in the one journal.
-#[test]
-fn two_connections_are_answered_by_one_journal(rt: HostRuntime) -> Result<(), Fail> {
-    let alloc = rt.alloc();
-    let left = two_connections(&rt, alloc)?;
+/// Both connections were served, and each response is that of its place in the journal.
+fn is_right<R: Abort>(rt: &R, alloc: Global, left: &Transcript) -> Result<(), AllocError> {
     assert_eq!(rt; left.ended, (Ended::Served, Ended::Served));
     assert_eq!(rt; left.journal.len(), 5 + 98 + 97);
-    first_is_right(&rt, alloc, &left.journal, left.first.sink.bytes())?;
-    second_is_right(&rt, alloc, &left.journal, left.second.sink.bytes())?;
-    Ok(())
+    first_is_right(rt, alloc, &left.journal, left.first.sink.bytes())?;
+    second_is_right(rt, alloc, &left.journal, left.second.sink.bytes())
+}
+
+/// Each response of two connections side by side is that of its place in the one journal.
+fn one_journal<R: Threads + Wait + Abort + Sync>(rt: &R, alloc: Global) -> Result<(), AllocError> {
+    let left = two_connections(rt, alloc)?;
+    is_right(rt, alloc, &left)
+}
+
+#[test]
+fn two_connections_are_answered_by_one_journal(rt: HostRuntime) -> Result<(), Fail> {
+    Ok(one_journal(&rt, rt.alloc())?)
 }

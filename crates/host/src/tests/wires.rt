@@ -1,6 +1,6 @@
 //! Connections in memory.
 
-ghost use Rattle.std.specs.Prelude.{◌≡◌, ◌≤◌, length};
+ghost use Rattle.std.specs.Prelude.{◌≡◌, ◌≤◌, IfOk, length};
 ghost use Rattle.entries.specs.Ranges.{IsGood};
 ghost use Rattle.arena_lock.specs.Turns.{IsReady};
 ghost use Rattle.host.specs.Asked.{AreKeysOfPlayers};
@@ -10,11 +10,11 @@ use crate::{Ended, serve_connection};
 use arena_core::{Answer, Query};
 use arena_lock::{Lobby, Pass};
 use conn::{MemClock, MemSink, MemSource};
+use entries::Setup;
 use setup_file::Keys;
 use std::alloc::{AllocError, Global};
 use std::process::Abort;
 use std::sync::Wait;
-use std::test::Fail;
 use std::thread::Threads;
 
 /// How many bytes a read gives and a write takes at most, and which read and which write fails, if one does.
@@ -50,26 +50,40 @@ pub struct Line {
     pub clock: MemClock,
 }
 
-fn one_or_none(alloc: Global, call: Option<u64>) -> Result<Vec<u64>, AllocError> {
-    let mut calls = Vec::new(alloc);
-    if let Some(call) = call {
-        calls.push(call)?;
+/// The number of the call that fails, if one does.
+fn failing(alloc: Global, call: Option<u64>) -> Result<Vec<u64>, AllocError> {
+    match call {
+        Some(call) => Ok(vec![in alloc; call]?),
+        None => Ok(Vec::new(alloc)),
     }
-    Ok(calls)
+}
+
+fn source(alloc: Global, bytes: &[u8], wires: &Wires) -> Result<MemSource, AllocError>
+    requires piece { 1 ≤ wires.now.read_piece }
+{
+    let fails = failing(alloc, wires.read_fails)?;
+    let sent = Vec::from_slice(alloc, bytes)?;
+    Ok(MemSource::new(sent, wires.read_piece, fails))
+}
+
+fn sink(alloc: Global, wires: &Wires) -> Result<MemSink, AllocError>
+    requires piece { 1 ≤ wires.now.write_piece }
+{
+    let fails = failing(alloc, wires.write_fails)?;
+    MemSink::new(alloc, 65536, wires.write_piece, fails)
 }
 
 /// A connection that sends these bytes, where the time is `now`.
 pub fn connection(alloc: Global, bytes: &[u8], wires: &Wires, now: u64) -> Result<Line, AllocError>
     requires pieces { (1 ≤ wires.now.read_piece) × (1 ≤ wires.now.write_piece) }
 {
-    let sent = Vec::from_slice(alloc, bytes)?;
-    let read_fails = one_or_none(alloc, wires.read_fails)?;
-    let write_fails = one_or_none(alloc, wires.write_fails)?;
-    let sink = MemSink::new(alloc, 65536, wires.write_piece, write_fails)?;
+    let moments = vec![in alloc; now]?;
+    let source = source(alloc, bytes, wires)?;
+    let sink = sink(alloc, wires)?;
     Ok(Line {
-        source: MemSource::new(sent, wires.read_piece, read_fails),
+        source,
         sink,
-        clock: MemClock::new(one_or_none(alloc, Some(now))?),
+        clock: MemClock::new(moments),
     })
 }
 
@@ -83,7 +97,8 @@ pub fn serve<R: Wait>(
     line: &mut Line,
 ) -> Ended
     requires ready { IsReady lobby.now pass.old }
-    requires keys { AreKeysOfPlayers (length lobby.now.fixed.players) keys.now }
+    requires four { length lobby.now.fixed.players ≡ 4 }
+    requires keys { AreKeysOfPlayers 4 keys.now }
     ensures ready { IsReady lobby.now pass.new }
 {
     serve_connection(
@@ -101,7 +116,6 @@ pub fn serve<R: Wait>(
 /// How many entries the journal has.
 fn entries<R: Wait>(rt: &R, alloc: Global, lobby: &Lobby, pass: &mut Pass) -> Option<u64>
     requires ready { IsReady lobby.now pass.old }
-    ensures ready { IsReady lobby.now pass.new }
 {
     match lobby.query(rt, alloc, pass, 0, Query::Journal(0)) {
         Ok(Answer::Journal { total, .. }) => Some(total),
@@ -120,12 +134,26 @@ fn comes_to<R: Wait + Abort>(
     wanted: &Wanted,
 )
     requires ready { IsReady lobby.now pass.old }
-    requires keys { AreKeysOfPlayers (length lobby.now.fixed.players) keys.now }
+    requires four { length lobby.now.fixed.players ≡ 4 }
+    requires keys { AreKeysOfPlayers 4 keys.now }
 {
     let ended = serve(rt, alloc, lobby, keys, pass, line);
     assert_eq!(rt; ended, wanted.ended);
     assert_eq!(rt; line.sink.bytes(), wanted.text);
     assert_eq!(rt; entries(rt, alloc, lobby, pass), Some(wanted.entries));
+}
+
+/// A lobby over a setup and its one pass, before anything happened.
+fn opened_for_one(alloc: Global, setup: Setup) -> Result<(Lobby, Pass), AllocError>
+    requires good { IsGood setup }
+    ensures setup { IfOk result (λ r. r.0.fixed ≡ setup) }
+    ensures ready { IfOk result (λ r. IsReady r.0 r.1) }
+{
+    let (lobby, mut passes) = opened(alloc, setup, 1)?;
+    match passes.pop() {
+        Some(pass) => Ok((lobby, pass)),
+        None => Err(AllocError),
+    }
 }
 
 /// A connection at 0, before which nothing happened, comes to what is wanted.
@@ -134,15 +162,12 @@ pub fn first_comes_to<R: Wait + Abort>(
     alloc: Global,
     bytes: &[u8],
     wanted: &Wanted,
-) -> Result<(), Fail> {
-    let (setup, keys) = evening(alloc)?;
+) -> Result<(), AllocError> {
     let mut line = connection(alloc, bytes, &WHOLE, 0)?;
-    let (lobby, mut passes) = opened(alloc, setup, 1)?;
-    if let Some(mut pass) = passes.pop() {
-        comes_to(rt, alloc, &lobby, &keys, &mut pass, &mut line, wanted);
-        return Ok(());
-    }
-    Err(Fail::from(AllocError))
+    let (setup, keys) = evening(alloc)?;
+    let (lobby, mut pass) = opened_for_one(alloc, setup)?;
+    comes_to(rt, alloc, &lobby, &keys, &mut pass, &mut line, wanted);
+    Ok(())
 }
 
 /// The game of alice and bob begins, and then the connection comes to what is wanted.
@@ -158,7 +183,7 @@ fn begun_comes_to<R: Threads + Wait + Abort + Sync>(
     requires good { IsGood lobby.now.fixed }
     requires four { length lobby.now.fixed.players ≡ 4 }
     requires ready { IsReady lobby.now pass.old }
-    requires keys { AreKeysOfPlayers (length lobby.now.fixed.players) keys.now }
+    requires keys { AreKeysOfPlayers 4 keys.now }
 {
     let began = begin_game(rt, alloc, lobby, pass)?;
     assert!(rt; began);
@@ -173,17 +198,13 @@ pub fn in_game_comes_to<R: Threads + Wait + Abort + Sync>(
     bytes: &[u8],
     wires: &Wires,
     wanted: &Wanted,
-) -> Result<(), Fail>
+) -> Result<(), AllocError>
     requires pieces { (1 ≤ wires.now.read_piece) × (1 ≤ wires.now.write_piece) }
 {
-    let (setup, keys) = evening(alloc)?;
     let mut line = connection(alloc, bytes, wires, 2_000)?;
-    let (lobby, mut passes) = opened(alloc, setup, 1)?;
-    if let Some(mut pass) = passes.pop() {
-        begun_comes_to(rt, alloc, &lobby, &keys, &mut pass, &mut line, wanted)?;
-        return Ok(());
-    }
-    Err(Fail::from(AllocError))
+    let (setup, keys) = evening(alloc)?;
+    let (lobby, mut pass) = opened_for_one(alloc, setup)?;
+    begun_comes_to(rt, alloc, &lobby, &keys, &mut pass, &mut line, wanted)
 }
 
 /// A response with these words, at so many entries seen, with further lines of its head, and a body.

@@ -9,8 +9,10 @@ use group_pairing::{Bench, Partners, Solve};
 use pair_cost::{Candidate, Frame};
 use std::alloc::{AllocError, Global};
 use std::process::Abort;
+use std::sync::Wait;
 use std::sync::atomic::{AtomicBool, Ordering};
 use std::test::Fail;
+use std::thread::Threads;
 
 /// Alice, bob and carol, for an hour.
 const THREE: &str =
@@ -96,6 +98,35 @@ impl<'a> Door for LateDoor<'a> {
     }
 }
 
+/// A connection that brings these requests, and raises a flag when it is answered.
+fn link<'a>(
+    alloc: Global,
+    requests: &str,
+    written: Option<&'a AtomicBool>,
+) -> Result<(MemSource, TellingSink<'a>), AllocError> {
+    let inner = sink(alloc, &[])?;
+    let bytes = Vec::from_slice(alloc, requests.as_bytes())?;
+    Ok((
+        MemSource::new(bytes, 4096, Vec::new(alloc)),
+        TellingSink { inner, written },
+    ))
+}
+
+/// A clock at moment 0 so often and then at the end of the hour.
+fn clock(alloc: Global, zeros: usize) -> Result<MemClock, AllocError> {
+    let mut moments = Vec::from_elem(alloc, 0, zeros)?;
+    moments.push(3_600_000)?;
+    Ok(MemClock::new(moments))
+}
+
+/// One solver.
+fn solvers<'a>(alloc: Global, flags: &'a Flags) -> Result<Vec<LateBench<'a>>, AllocError>
+    ensures one { IfOk result (λ solvers. 0 < vec_len solvers) }
+{
+    let bench = Bench::new(alloc)?;
+    Ok(vec![in alloc; LateBench { bench, flags }]?)
+}
+
 /// A worker whose one connection brings these requests behind a flag, and raises another when it is answered; at moment 0 so often
 /// and then at the end of the hour.
 fn worker_with<'a>(
@@ -108,20 +139,12 @@ fn worker_with<'a>(
 ) -> Result<Worker<LateDoor<'a>, MemClock, LateBench<'a>>, AllocError>
     ensures { IfOk result (λ w. 0 < vec_len w.solvers) }
 {
-    let mut bytes = Vec::new(alloc);
-    bytes.extend_from_slice(requests.as_bytes())?;
-    let mut moments = Vec::from_elem(alloc, 0, zeros)?;
-    moments.push(3_600_000)?;
-    let inner = sink(alloc, &[])?;
-    let bench = Bench::new(alloc)?;
-    let solvers = vec![in alloc; LateBench { bench, flags }]?;
-    let link = Some((
-        MemSource::new(bytes, 4096, Vec::new(alloc)),
-        TellingSink { inner, written },
-    ));
+    let clock = clock(alloc, zeros)?;
+    let link = Some(link(alloc, requests, written)?);
+    let solvers = solvers(alloc, flags)?;
     Ok(Worker {
         door: LateDoor { link, after },
-        clock: MemClock::new(moments),
+        clock,
         solvers,
     })
 }
@@ -140,17 +163,32 @@ fn two_workers<'a>(
     Ok(vec![in alloc; first, second]?)
 }
 
-#[test]
-fn wave_beside_enter(rt: HostRuntime) -> Result<(), Fail> {
-    let alloc = rt.alloc();
+/// The evening of three players, the journal of which begins with the four entries.
+fn four_entries<R: Wait + Threads + Sync + Abort>(
+    rt: &R,
+    alloc: Global,
+    flags: &Flags,
+    journal: &mut MemSink,
+    table: &mut MemSink,
+) -> Result<(), AllocError> {
+    let workers = two_workers(alloc, flags)?;
+    let end = serve(rt, alloc, THREE, workers, journal, table)?;
+    assert_eq!(rt; end, Ok(ServeEnd::Done));
+    assert!(rt; journal.bytes().starts_with(FOUR_ENTRIES.as_bytes()));
+    Ok(())
+}
+
+fn evening<R: Wait + Threads + Sync + Abort>(rt: &R, alloc: Global) -> Result<(), AllocError> {
     let flags = Flags {
         planning: AtomicBool::new(false),
         answered: AtomicBool::new(false),
     };
-    let (mut journal, mut table) = (sink(alloc, &[])?, sink(alloc, &[])?);
-    let workers = two_workers(alloc, &flags)?;
-    let end = serve(&rt, alloc, THREE, workers, &mut journal, &mut table)?;
-    assert_eq!(rt; end, ServeEnd::Done);
-    assert!(rt; journal.bytes().starts_with(FOUR_ENTRIES.as_bytes()));
-    Ok(())
+    let mut journal = sink(alloc, &[])?;
+    let mut table = sink(alloc, &[])?;
+    four_entries(rt, alloc, &flags, &mut journal, &mut table)
+}
+
+#[test]
+fn wave_beside_enter(rt: HostRuntime) -> Result<(), Fail> {
+    Ok(evening(&rt, rt.alloc())?)
 }

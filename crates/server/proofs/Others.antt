@@ -41,7 +41,7 @@ module _ {E : Type 0} (by : E → ℕ) (i : ℕ) where
   }
 
 -- the number of the last entry, or this one where there is none
-last_number : ℕ → List Entry → ℕ
+abbrev last_number : ℕ → List Entry → ℕ
 last_number n [] = n
 last_number n (e ∷ es) = last_number e.pass es
 

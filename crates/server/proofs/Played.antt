@@ -28,15 +28,17 @@ take_at [] ys (suc n) same = absurd (omega (arith, same))
 take_at (x ∷ xs) ys zero same = absurd (omega (arith, same))
 take_at (x ∷ xs) ys (suc n) same = ap (λ l. x ∷ l) (take_at xs ys n (omega (arith, same)))
 
--- what new passes are, by their numbers
-numbers_of : {X : Type 0} (lobby : Lock Setup) (pass_of : X → Pass) (first n : ℕ) (xs : List X) → map pass_of xs ≡ map (new_pass lobby) (range_with_len first n)
-    → (i : ℕ) (d : X) → i < length xs → pass_of (slice_index_or xs i d) ≡ new_pass lobby (first + i)
-numbers_of lobby pass_of first n [] is i d below = absurd (omega (arith, below))
-numbers_of lobby pass_of first zero (x ∷ xs) is i d below = cc
-numbers_of lobby pass_of first (suc n) (x ∷ xs) is zero d below = ap (λ (l : List Pass). slice_index_or l 0 (pass_of x)) is
-numbers_of lobby pass_of first (suc n) (x ∷ xs) is (suc i) d below =
-    let next : suc first + i ≡ first + suc i = omega arith in
-    numbers_of lobby pass_of (suc first) n xs (ap (λ (l : List Pass). drop 1 l) is) i d (omega (arith, below)) ∙ ap (λ k. new_pass lobby k) next
+-- items whose passes are new have them in the order of their numbers
+news_at : {X : Type 0} (lobby : Lock Setup) (of : X → Pass) (first n : ℕ) (xs : List X) → map of xs ≡ map (new_pass lobby) (range_with_len first n)
+    → (i : ℕ) (d : X) → i < length xs → of (slice_index_or xs i d) ≡ new_pass lobby (first + i)
+news_at lobby of first n [] is i d below = absurd (omega (arith, below))
+news_at lobby of first zero (x ∷ xs) is i d below = absurd (let bad : of x ∷ map of xs ≡ [] = is in cc)
+news_at lobby of first (suc n) (x ∷ xs) is zero d below =
+    let here : first ≡ first + 0 = omega arith in
+    ap (λ (l : List Pass). slice_index_or l 0 (of x)) is ∙ ap (λ k. new_pass lobby k) here
+news_at lobby of first (suc n) (x ∷ xs) is (suc i) d below =
+    let next : first + 1 + i ≡ first + suc i = omega arith in
+    news_at lobby of (first + 1) n xs (ap (λ (l : List Pass). drop 1 l) is) i d (omega (arith, below)) ∙ ap (λ k. new_pass lobby k) next
 
 module _ (lobby : Lock Setup) {D C V : Type 0} (ps : List Pass) (ws : List (Worker D C V)) (items : List (Shift D C V)) (same : length ps ≡ length ws) (made : items ≡ map (λ (p : Pass × Worker D C V). record { pass = p.0; worker = p.1 }) (zip ps ws)) where
   passes : map (λ (x : Shift D C V). x.pass) items ≡ ps
@@ -53,7 +55,7 @@ module _ (lobby : Lock Setup) {D C V : Type 0} (ps : List Pass) (ws : List (Work
 
   module _ (new : ps ≡ map (new_pass lobby) (range_with_len 0 lobby.passes)) where
     new_at : (i : ℕ) (d : Shift D C V) → i < length items → (slice_index_or items i d).pass ≡ new_pass lobby (0 + i)
-    new_at = numbers_of lobby (λ (x : Shift D C V). x.pass) 0 lobby.passes items (passes ∙ new)
+    new_at = news_at lobby (λ (x : Shift D C V). x.pass) 0 lobby.passes items (passes ∙ new)
 
     pub start_fresh : All (λ (x : Shift D C V). x.pass.turns ≡ []) items
     start_fresh = λ i d below. ap (λ (p : Pass). p.turns) (new_at i d below)

@@ -10,7 +10,8 @@ use Rattle.entries.specs.declared.setup.Setup.{Setup}
 use Rattle.arena_history.specs.Snapshots.{snapshot}
 use Rattle.arena_history.specs.Stamps.{stamp_of}
 use Rattle.arena_history.specs.Waves.{history}
-use Rattle.arena_lock.specs.Turns.{Pass}
+use Rattle.turnstile.specs.Passes.{Lock}
+use Rattle.arena_lock.specs.Turns.{IsReady, Pass}
 use Rattle.director.specs.declared.turn.Turn.{Turn}
 use Rattle.director.specs.declared.turn.TurnFault.{TurnFault}
 use Rattle.director.specs.declared.turn.TurnFault.TheVariants as fault
@@ -24,6 +25,7 @@ use Rattle.host.specs.Exchanges.{Exchange, lengths}
 use Rattle.wave.specs.declared.snapshot.Snapshot.{Snapshot}
 use Rattle.server.specs.declared.workers.WorkerEnd.{WorkerEnd}
 use Rattle.server.specs.declared.workers.WorkerEnd.TheVariants.{Over, Full}
+use Rattle.server.specs.Shifts.{HasWorked}
 use Rattle.server.specs.Works.{FoundOver, IsMomentAt, IsReason, Works, end_by}
 use Rattle.server.proofs.Turns.{spent_more, spent_none, moment_more, prefix_trans, gave_a_turn}
 
@@ -136,4 +138,14 @@ works_by_turn s a d (Err fault.OutOfMemory) number spends grown shows full = rec
   number = number;
   grown = grown;
   reason = tt;
+}
+
+-- a worker whose pass had taken no turn has worked, and has ended
+pub worked : (lobby : Lock Setup) (a d : State) (end : WorkerEnd) → a.pass.turns ≡ [] → IsReady lobby d.pass → Works lobby.fixed a d (Some end)
+    → HasWorked lobby a.pass.number a.moments d.pass
+worked lobby a d end fresh ready w = record {
+  ready = ready;
+  same = w.number;
+  end = end;
+  reason = subst (λ l. IsReason lobby.fixed a.moments l d.pass.seen end) (sym (w.spent.turns ∙ ap (λ l. l ++ w.lengths) fresh)) w.reason;
 }

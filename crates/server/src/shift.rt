@@ -40,6 +40,23 @@ pub(crate) fn shifts_of<D: Drop, C: Drop, V: Drop>(
         .collect(alloc)
 }
 
+// Lets a worker work whose pass has taken no turn yet, until it has ended.
+fn work<R: Wait + Threads + Sync, D: Door + Send, C: Clock + Send, V: Solve + Send>(
+    rt: &R,
+    alloc: Global,
+    lobby: &Lobby,
+    keys: &Keys,
+    shift: &mut Shift<D, C, V>,
+)
+    requires ready { IsReady lobby.now shift.old.pass }
+    requires fresh { shift.old.pass.turns ≡ [] }
+    requires players { AreKeysOfPlayers (length lobby.now.fixed.players) keys.now }
+    requires solvers { 0 < vec_len shift.old.worker.solvers }
+    ensures { HasWorked lobby.now shift.old.pass.number (C.moments shift.old.worker.clock) shift.new.pass }
+{
+    worker(rt, alloc, lobby, keys, &mut shift.pass, &mut shift.worker);
+}
+
 /// Lets all workers work, each in a thread of its own where one can be made, until each has ended.
 pub(crate) fn work_all<R: Wait + Threads + Sync, D: Door + Send, C: Clock + Send, V: Solve + Send>(
     rt: &R,
@@ -65,9 +82,10 @@ pub(crate) fn work_all<R: Wait + Threads + Sync, D: Door + Send, C: Clock + Send
         &|_: usize, shift: &mut Shift<D, C, V>|
             requires { IsSync R.row × IsReady lobby.now shift.now.pass × (shift.now.pass.turns ≡ [])
                 × AreKeysOfPlayers (length lobby.now.fixed.players) keys.now × (0 < vec_len shift.now.worker.solvers) }
-            ensures { HasWorked lobby.entry.now shift.entry.now.pass.number (C.moments shift.entry.now.worker.clock) shift.exit.now.pass }
+            ensures { HasWorked lobby.entry.now shift.entry.now.pass.number
+                (C.moments shift.entry.now.worker.clock) shift.exit.now.pass }
         {
-            worker(rt, alloc, lobby, keys, &mut shift.pass, &mut shift.worker);
+            work(rt, alloc, lobby, keys, shift);
         },
     );
 }

@@ -1,6 +1,6 @@
 -- What a worker does, step by step, and its reason to end.
 use Rattle.std.proofs.Common.{◌≡◌, ℕ, true, false, Bool, if◌then◌else◌, List, [], ◌∷◌, ◌++◌, length, take, Option, Some, None, Result, Ok, Err, refl, sym, ap, ◌∙◌, subst, append-nil, append_assoc, length-append}
-use Rattle.std.specs.Prelude.{◌+◌, IfOk, IfSome, nat_le, nat_lt, ◌&&◌, ◌==◌}
+use Rattle.std.specs.Prelude.{◌+◌, ◌≤◌, IfOk, IfSome, nat_le, nat_lt, ◌&&◌, ◌==◌}
 use Rattle.std.proofs.Math.Seq.{take-length}
 use Rattle.std.proofs.lemmas.Bool.{leb-true, le-ltb}
 use mathlib.Core.List.{IsPrefix}

@@ -72,7 +72,7 @@ pub(crate) fn work_all<R: Wait + Threads + Sync, D: Door + Send, C: Clock + Send
     requires solvers { All (λ shift. 0 < vec_len shift.worker.solvers) shifts.old }
     ensures { (i : ℕ) (d : _) → i < length shifts.old
         → HasWorked lobby.now (slice_index_or shifts.old i d).pass.number
-            (C.moments (slice_index_or shifts.old i d).worker.clock) (slice_index_or shifts.new i d).pass }
+        (C.moments (slice_index_or shifts.old i d).worker.clock) (slice_index_or shifts.new i d).pass }
 {
     let threads = shifts.len();
     thread::for_each_mut(

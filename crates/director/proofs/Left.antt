@@ -83,6 +83,13 @@ due_told s c d snap (Started count) e = (λ is. cc, λ none. let bad : true ≡ 
 due_told s c d snap Early e = (λ is. cc, λ none. let bad : true ≡ false = sym e.due ∙ none in cc)
 due_told s c d snap Closed e = (λ is. cc, λ none. let bad : true ≡ false = sym e.due ∙ none in cc)
 
+-- where no wave was due the snapshot was the last step
+last_step : (s : Setup) (c d : State) (snap : Snapshot) (end : WaveEnd) → Ends s c d snap end → end ≡ NotDue → length c.pass.seen ≡ length d.pass.seen
+last_step s c d snap NotDue e is = ap (λ (x : State). length x.pass.seen) (sym e.1)
+last_step s c d snap (Started count) e is = cc
+last_step s c d snap Early e is = cc
+last_step s c d snap Closed e is = cc
+
 -- what was seen first is the beginning of what is seen then
 first_seen : (now first more : List Entry) (n : ℕ) → n ≡ length first → now ≡ first ++ more → take n now ≡ first
 first_seen now first more n long is = ap (λ k. take k now) long ∙ (ap (take (length first)) is ∙ take-append_seam first more)
@@ -192,6 +199,7 @@ module _ (laws : Causes) (s : Setup) (a d : State) where
           now = step.now;
           second = second a.moments p.b.moments t.c.moments p.looked.step.now step.now p.looked.step.ticks step.ticks;
           known = subst (λ k. k ≤ length d.pass.seen) (sym long) (longer d.pass.seen t.c.pass.seen last.grew.more last.grew.seen);
+          whole = λ is. long ∙ last_step s t.c d t.snap turn.wave t.wave is;
           shown =
               subst (λ snap. IsShownBy s turn snap) (is_first s p.b t.c t.snap p.snapped (take turn.n d.pass.seen) seen)
               (record { idle = t.idle; over = t.over; due = due_told s t.c d t.snap turn.wave t.wave });

@@ -90,11 +90,13 @@ abbrev pub IsSecond : Option (List ℕ) → ℕ → Type 0
 IsSecond None now = Unit {0}
 IsSecond (Some told) now = now ≡ first_moment (moments_after told)
 
--- the pass has seen at least n entries, and a snapshot of the first n, at the clock's second moment, shows what the turn answers
+-- the pass has seen at least n entries, and no further ones where no wave was due; and a snapshot of the first n, at the clock's
+-- second moment, shows what the turn answers
 pub record ShowsFirst (s : Setup) (told : Option (List ℕ)) (seen : List Entry) (turn : Turn) : Type 0 where
   pub now : ℕ
   pub second : IsSecond told now
   pub known : turn.n ≤ length seen
+  pub whole : turn.wave ≡ NotDue → turn.n ≡ length seen
   pub shown : IsShownBy s turn (snapshot s (history s (take turn.n seen)) (stamp_of (take turn.n seen) now))
 
 -- these are as many entries as there may be, or a wave of the first n of them would begin more games than there may be

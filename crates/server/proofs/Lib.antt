@@ -5,4 +5,5 @@ pub mod Reasons
 pub mod Shifts
 pub mod Writing
 pub mod Pairs
+pub mod Others
 pub mod Played

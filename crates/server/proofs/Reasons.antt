@@ -1,34 +1,41 @@
 -- What a worker does, step by step, and its reason to end.
-use Rattle.std.proofs.Common.{◌≡◌, ℕ, true, false, Bool, if◌then◌else◌, List, [], ◌∷◌, ◌++◌, length, Option, Some, None, Result, Ok, Err, refl, sym, ap, ◌∙◌, subst, append-nil}
-use Rattle.std.specs.Prelude.{◌+◌, IfOk, IfSome, slice_get}
+use Rattle.std.proofs.Common.{◌≡◌, ℕ, true, false, Bool, if◌then◌else◌, List, [], ◌∷◌, ◌++◌, length, take, Option, Some, None, Result, Ok, Err, refl, sym, ap, ◌∙◌, subst, append-nil, append_assoc, length-append}
+use Rattle.std.specs.Prelude.{◌+◌, ◌≤◌, IfOk, IfSome, nat_le, nat_lt, ◌&&◌, ◌==◌}
+use Rattle.std.proofs.Math.Seq.{take-length}
+use Rattle.std.proofs.lemmas.Bool.{leb-true, le-ltb}
 use mathlib.Core.List.{IsPrefix}
 use Rattle.conn.specs.Moments.{first_moment, moments_after}
 use Rattle.entries.specs.declared.journal.Entry.{Entry}
 use Rattle.entries.specs.declared.setup.Setup.{Setup}
-use Rattle.arena_lock.specs.Turns.{Pass}
+use Rattle.arena_history.specs.Snapshots.{snapshot}
+use Rattle.arena_history.specs.Stamps.{stamp_of}
+use Rattle.arena_history.specs.Waves.{history}
+use Rattle.turnstile.specs.Passes.{Lock}
+use Rattle.arena_lock.specs.Turns.{IsReady, Pass}
 use Rattle.director.specs.declared.turn.Turn.{Turn}
 use Rattle.director.specs.declared.turn.TurnFault.{TurnFault}
 use Rattle.director.specs.declared.turn.TurnFault.TheVariants as fault
 use Rattle.director.specs.declared.turn.WaveEnd.{WaveEnd}
-use Rattle.director.specs.declared.turn.WaveEnd.TheVariants.{NotDue, Started, Early, Closed}
+use Rattle.director.specs.declared.turn.WaveEnd.TheVariants.{NotDue}
+use Rattle.director.specs.Due.{is_due, is_over, is_rested}
 use Rattle.director.specs.Gains.{IsFull, IsSecond, LengthsOf, ShowsFirst, Spends, Spent}
 use Rattle.director.specs.Steps.{State, state_of}
 use Rattle.host.specs.Asked.{Asked}
 use Rattle.host.specs.Exchanges.{Exchange, lengths}
+use Rattle.wave.specs.declared.snapshot.Snapshot.{Snapshot}
 use Rattle.server.specs.declared.workers.WorkerEnd.{WorkerEnd}
 use Rattle.server.specs.declared.workers.WorkerEnd.TheVariants.{Over, Full}
+use Rattle.server.specs.Shifts.{HasWorked}
 use Rattle.server.specs.Works.{FoundOver, IsMomentAt, IsReason, Works, end_by}
-use Rattle.server.proofs.Turns.{spent_more, spent_none, moment_more, get_behind, prefix_trans, gave_a_turn}
+use Rattle.server.proofs.Turns.{spent_more, spent_none, moment_more, prefix_trans, gave_a_turn}
 
 -- a reason stays one where turns came before
 found_more : (s : Setup) (a b : State) (l1 l2 : List ℕ) (seen : List Entry) → Spent a b l1 → FoundOver s b.moments l2 seen → FoundOver s a.moments (l1 ++ l2) seen
 found_more s a b l1 l2 seen p x = record {
-  place = length l1 + x.place;
-  n = x.n;
+  before = l1 ++ x.before;
+  last = ap (λ l. l1 ++ l) x.last ∙ sym (append_assoc l1 x.before (length seen ∷ []));
   now = x.now;
-  turn = get_behind l1 l2 x.place ∙ x.turn;
-  moment = moment_more a.moments b.moments (length l1) x.place x.now p.moments x.moment;
-  known = x.known;
+  moment = subst (λ place. IsMomentAt a.moments place x.now) (sym (length-append l1 x.before)) (moment_more a.moments b.moments (length l1) (length x.before) x.now p.moments x.moment);
   over = x.over;
 }
 
@@ -69,12 +76,22 @@ works_by_requests s keys m m' old new xs asked = record {
   reason = tt;
 }
 
--- the second length of a director's turn is that of its snapshot
-second_length : (n : ℕ) (wave : WaveEnd) (l : List ℕ) → LengthsOf n wave l → slice_get l 1 ≡ Some n
-second_length n NotDue l e = ap (λ (l : List ℕ). slice_get l 1) e.1
-second_length n (Started count) l e = ap (λ (l : List ℕ). slice_get l 1) e.2
-second_length n Early l e = ap (λ (l : List ℕ). slice_get l 1) e.2
-second_length n Closed l e = ap (λ (l : List ℕ). slice_get l 1) e.2
+both_hold : (a b : Bool) → (a && b) ≡ true → a ≡ true
+both_hold true b is = refl
+both_hold false b is = is
+
+third_fails : (a b c d : Bool) → c ≡ false → (a && b && c && d) ≡ false
+third_fails true true true d is = absurd (let bad : true ≡ false = is in cc)
+third_fails true true false d is = refl
+third_fails true false c d is = refl
+third_fails false b c d is = refl
+
+-- no wave is due where the arena is over
+none_due : (s : Setup) (snap : Snapshot) → is_over s snap ≡ true → is_due s snap ≡ false
+unfolding is_over is_due
+none_due s snap over =
+    let ended : s.ends ≤ snap.stamp = leb-true s.ends snap.stamp (both_hold (nat_le s.ends snap.stamp) (snap.running == 0) over) in
+    third_fails (nat_le 2 (length snap.rows)) (nat_le s.starts snap.stamp) (nat_lt snap.stamp s.ends) (is_rested s.wave_ms snap.last_wave snap.stamp) (le-ltb snap.stamp s.ends ended)
 
 second_moment : (m : Option (List ℕ)) (now : ℕ) → IsSecond m now → IsMomentAt m 1 now
 second_moment None now x = tt
@@ -83,15 +100,19 @@ second_moment (Some ms) now x = x
 over_or_not : (s : Setup) (m : Option (List ℕ)) (l : List ℕ) (seen : List Entry) (turn : Turn) (b : Bool) → turn.over ≡ b
     → LengthsOf turn.n turn.wave l → ShowsFirst s m seen turn → IfSome (if b then Some Over else None) (IsReason s m l seen)
 over_or_not s m l seen turn false is by shows = tt
-over_or_not s m l seen turn true is by shows = record {
-  place = 1;
-  n = turn.n;
-  now = shows.now;
-  turn = second_length turn.n turn.wave l by;
-  moment = second_moment m shows.now shows.second;
-  known = shows.known;
-  over = sym shows.shown.over ∙ is;
-}
+over_or_not s m l seen turn true is by shows =
+    let shown : is_over s (snapshot s (history s (take turn.n seen)) (stamp_of (take turn.n seen) shows.now)) ≡ true = sym shows.shown.over ∙ is in
+    let not_due : turn.wave ≡ NotDue = shows.shown.due.1 (none_due s (snapshot s (history s (take turn.n seen)) (stamp_of (take turn.n seen) shows.now)) shown) in
+    let whole : turn.n ≡ length seen = shows.whole not_due in
+    let two : LengthsOf turn.n NotDue l = subst (λ wave. LengthsOf turn.n wave l) not_due by in
+    let all : take turn.n seen ≡ seen = ap (λ n. take n seen) whole ∙ take-length seen in
+    record {
+      before = two.0 ∷ [];
+      last = two.1 ∙ ap (λ n. two.0 ∷ n ∷ []) whole;
+      now = shows.now;
+      moment = second_moment m shows.now shows.second;
+      over = subst (λ es. is_over s (snapshot s (history s es) (stamp_of es shows.now)) ≡ true) all shown;
+    }
 
 -- a director's turn was made
 pub works_by_turn : (s : Setup) (a d : State) (result : Result Turn TurnFault) → d.pass.number ≡ a.pass.number → Spends a d result
@@ -117,4 +138,14 @@ works_by_turn s a d (Err fault.OutOfMemory) number spends grown shows full = rec
   number = number;
   grown = grown;
   reason = tt;
+}
+
+-- a worker whose pass had taken no turn has worked, and has ended
+pub worked : (lobby : Lock Setup) (a d : State) (end : WorkerEnd) → a.pass.turns ≡ [] → IsReady lobby d.pass → Works lobby.fixed a d (Some end)
+    → HasWorked lobby a.pass.number a.moments d.pass
+worked lobby a d end fresh ready w = record {
+  ready = ready;
+  same = w.number;
+  end = end;
+  reason = subst (λ l. IsReason lobby.fixed a.moments l d.pass.seen end) (sym (w.spent.turns ∙ ap (λ l. l ++ w.lengths) fresh)) w.reason;
 }

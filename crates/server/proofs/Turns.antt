@@ -1,6 +1,5 @@
 -- The turns of a worker in a row, each with a moment of its clock.
 use Rattle.std.proofs.Common.{◌≡◌, ℕ, zero, suc, ◌+◌, List, [], ◌∷◌, ◌++◌, length, Option, Some, None, refl, sym, ap, ◌∙◌, subst, arith, zero-add, append_assoc, append-nil, length-append}
-use Rattle.std.specs.Prelude.{slice_get}
 use mathlib.Core.List.{IsPrefix}
 use Rattle.conn.specs.Moments.{first_moment, moments_after}
 use Rattle.http_lines.specs.declared.request.RequestHead.{RequestHead}
@@ -43,13 +42,6 @@ moment_more None m1 j place now p q = tt
 moment_more (Some ms) m1 j place now p q =
     let here : now ≡ first_moment (moments_left place (moments_left j ms)) = subst (λ m. IsMomentAt m place now) p q in
     here ∙ ap (λ l. first_moment l) (sym (moments_more j place ms))
-
--- what stands behind a list stands in both together at its place behind the list
-pub get_behind : (xs ys : List ℕ) (k : ℕ) → slice_get (xs ++ ys) (length xs + k) ≡ slice_get ys k
-get_behind [] ys k = ap (λ n. slice_get ys n) (zero-add k)
-get_behind (x ∷ xs) ys k =
-    let next : length (x ∷ xs) + k ≡ suc (length xs + k) = omega arith in
-    ap (λ n. slice_get (x ∷ (xs ++ ys)) n) next ∙ get_behind xs ys k
 
 pub prefix_trans : {A : Type 0} (xs ys zs : List A) → IsPrefix xs ys → IsPrefix ys zs → IsPrefix xs zs
 prefix_trans xs ys zs p q = (p.0 ++ q.0, sym (append_assoc xs p.0 q.0) ∙ (ap (λ w. w ++ q.0) p.1 ∙ q.1))

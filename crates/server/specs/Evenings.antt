@@ -1,33 +1,44 @@
 -- Which history an evening leaves, and what is written of it.
-use Rattle.std.specs.Prelude.{◌≡◌, ℕ, ◌<◌, ◌⊎◌, List, length, Option}
-use Rattle.std.specs.List.{All}
-use mathlib.Core.List.{IsPrefix}
+use Rattle.std.specs.Prelude.{◌≡◌, ℕ, ◌<◌, ◌⊎◌, List, length, slice_index_or, Option}
+use Rattle.std.specs.List.{All, Any}
 use Rattle.conn.specs.Told.{Gained, GainedPart}
 use Rattle.entries.specs.declared.journal.Entry.{Entry}
 use Rattle.entries.specs.declared.setup.Setup.{Setup}
+use Rattle.arena_lock.specs.Turns.{pass_of}
 use Rattle.arena_rules.specs.Legal.{IsLegal}
 use Rattle.arena_rules.specs.StartLaws.{journal_of}
 use Rattle.journal_text.specs.Text.{text_of}
 use Rattle.table_text.specs.Table.{table}
+use Rattle.turnstile.specs.Histories.{OthersAdded}
 use Rattle.server.specs.declared.serve_end.ServeEnd.{ServeEnd}
 use Rattle.server.specs.declared.serve_end.ServeEnd.TheVariants.{Done, WriteFault, OutOfMemory}
 use Rattle.server.specs.declared.workers.WorkerEnd.{WorkerEnd}
 use Rattle.server.specs.Works.{IsReason}
 
--- a worker whose clock tells these moments had its reason to end at a beginning of these entries
-pub record HasEnded (s : Setup) (es : List Entry) (told : Option (List ℕ)) : Type 0 where
-  pub seen : List Entry
-  pub begins : IsPrefix seen es
-  pub lengths : List ℕ
+-- these entries were a worker's reason to end whose clock tells these moments: at its last turn, whose length is theirs, it found
+-- the arena over, or there is no room for more
+pub record HadReason (s : Setup) (seen : List Entry) (told : Option (List ℕ)) : Type 0 where
+  pub turns : List ℕ
   pub end : WorkerEnd
-  pub reason : IsReason s told lengths seen end
+  pub reason : IsReason s told turns seen end
+
+-- the worker whose pass has this number, and whose clock tells these moments, had its reason to end at a beginning of these entries,
+-- and none of those behind it is of its pass
+pub record HasEnded (s : Setup) (es : List Entry) (number : ℕ) (told : Option (List ℕ)) : Type 0 where
+  pub seen : List Entry
+  pub others : OthersAdded pass_of number seen es
+  pub reason : HadReason s seen told
 
 -- the entries that an evening leaves: they are legal, the numbers of their passes are below that of the workers, and each worker,
--- by its own clock, had its reason to end
+-- by its own clock, had its reason to end behind all entries of its own pass, which has the number of its place, from 0
 pub record IsEvening (s : Setup) (clocks : List (Option (List ℕ))) (es : List Entry) : Type 0 where
   pub legal : IsLegal s es
   pub numbers : All (λ (e : Entry). e.pass < length clocks) es
-  pub ended : All (HasEnded s es) clocks
+  pub ended : (i : ℕ) (d : Option (List ℕ)) → i < length clocks → HasEnded s es i (slice_index_or clocks i d)
+
+-- of each evening that had workers, all entries together were the reason of one of them to end: his whose entry is the last
+abbrev pub SomeoneSawItWhole : Type 0
+SomeoneSawItWhole = (s : Setup) (clocks : List (Option (List ℕ))) (es : List Entry) → 0 < length clocks → IsEvening s clocks es → Any (HadReason s es) clocks
 
 -- the text of the journal of these entries, in version 2, which lists the games of each wave
 abbrev pub journal_text : Setup → List Entry → List ℕ

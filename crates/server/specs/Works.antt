@@ -1,5 +1,5 @@
 -- What a worker does, and why it ends.
-use Rattle.std.specs.Prelude.{◌≡◌, ℕ, ◌≤◌, true, false, if◌then◌else◌, List, take, length, slice_get, Option, Some, None, IfSome, Result, Ok, Err}
+use Rattle.std.specs.Prelude.{◌≡◌, ℕ, true, false, if◌then◌else◌, List, [], ◌∷◌, ◌++◌, length, Option, Some, None, IfSome, Result, Ok, Err}
 use mathlib.Core.List.{IsPrefix}
 use Rattle.conn.specs.Moments.{first_moment}
 use Rattle.entries.specs.declared.journal.Entry.{Entry}
@@ -27,16 +27,14 @@ abbrev pub IsMomentAt : Option (List ℕ) → ℕ → ℕ → Type 0
 IsMomentAt None place now = Unit {0}
 IsMomentAt (Some told) place now = now ≡ first_moment (moments_left place told)
 
--- one of the turns that left these lengths found the arena over: a snapshot of the first n entries, n being that turn's length, at
--- the moment that the clock gave for it, shows that the arena's end has come and that no game runs
+-- the last of the turns that left these lengths found the arena over: a snapshot of all that the pass has seen, at the moment that
+-- the clock gave for that turn, shows that the arena's end has come and that no game runs
 pub record FoundOver (s : Setup) (told : Option (List ℕ)) (lengths : List ℕ) (seen : List Entry) : Type 0 where
-  pub place : ℕ
-  pub n : ℕ
+  pub before : List ℕ
+  pub last : lengths ≡ before ++ length seen ∷ []
   pub now : ℕ
-  pub turn : slice_get lengths place ≡ Some n
-  pub moment : IsMomentAt told place now
-  pub known : n ≤ length seen
-  pub over : is_over s (snapshot s (history s (take n seen)) (stamp_of (take n seen) now)) ≡ true
+  pub moment : IsMomentAt told (length before) now
+  pub over : is_over s (snapshot s (history s seen) (stamp_of seen now)) ≡ true
 
 -- why a worker ends whose turns left these lengths, and whose pass has seen these entries then
 abbrev pub IsReason : Setup → Option (List ℕ) → List ℕ → List Entry → WorkerEnd → Type 0

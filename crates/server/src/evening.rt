@@ -1,11 +1,13 @@
 //! An evening, from its setup to what is written of it.
 
 ghost use Rattle.std.specs.Prelude.{◌≡◌, ◌≤◌, ◌<◌, ◌⊎◌, All, IfOk, length, map, vec_len};
+ghost use Rattle.std.specs.List.{range_with_len};
 ghost use Rattle.conn.specs.Faults.{Rose};
 ghost use Rattle.entries.specs.Ranges.{IsGood};
 ghost use Rattle.arena_lock.specs.Turns.{IsReady};
 ghost use Rattle.host.specs.Asked.{AreKeysOfPlayers};
 ghost use Rattle.server.specs.Evenings.{Ends, IsEvening};
+ghost use Rattle.turnstile.specs.Passes.{new_pass};
 
 use crate::record::record_evening;
 use crate::serve_end::ServeEnd;
@@ -40,6 +42,7 @@ fn play<
     requires some { 0 < length workers.items }
     requires number { lobby.passes ≡ length workers.items }
     requires len { length passes.items ≡ length workers.items }
+    requires new { passes.items ≡ map (new_pass lobby) (range_with_len 0 lobby.passes) }
     requires ready { All (IsReady lobby) passes.items }
     requires solvers { All (λ w. 0 < vec_len w.solvers) workers.items }
     ensures setup { IfOk result (λ arena. arena.setup ≡ lobby.fixed) }
@@ -80,6 +83,11 @@ fn play_arena<
 /// a thread of its own where one can be made, with at least one solver each. Once each of them has ended it writes the journal, in
 /// version 2, and the table of the one history that they made.
 ///
+/// Each worker has the pass with the number of its place, from 0, and ended behind the last entry of its own pass: its last turn
+/// found that the arena's end had come by its clock and that no game ran in all that there was then, or there was no room. What
+/// came behind that is of other workers, so for the worker that added the last entry it is the whole history
+/// (`someone_saw_it_whole`).
+///
 /// `WriteFault` comes only where the count of faults of one of the sinks rose, and `OutOfMemory` where memory ran out. It waits for
 /// its workers, and returns once the arena is over or full for each.
 pub fn serve_arena<
@@ -104,7 +112,7 @@ pub fn serve_arena<
     requires solvers { All (λ w. 0 < vec_len w.solvers) workers.items }
 
     // Journal and table are those of one and the same history, which is legal and was made by these workers, each of which had its
-    // reason to end in it: both whole, or as much of each as the answer says.
+    // reason to end behind all that it added itself: both whole, or as much of each as the answer says.
     ensures ends { Ends setup (map (λ w. C.moments w.clock) workers.items)
         (K.held journal.old) (K.held journal.new) (T.held table.old) (T.held table.new) result }
 

@@ -5,6 +5,7 @@
 #![tactic(auto)]
 
 mod evening;
+mod laws;
 mod load;
 mod record;
 mod serve_end;
@@ -13,6 +14,7 @@ mod workers;
 mod working;
 
 pub use evening::serve_arena;
+pub use laws::someone_saw_it_whole;
 pub use load::{LoadFault, load_setup};
 pub use serve_end::ServeEnd;
 pub use workers::{Worker, WorkerEnd};

@@ -40,6 +40,23 @@ pub(crate) fn shifts_of<D: Drop, C: Drop, V: Drop>(
         .collect(alloc)
 }
 
+// Lets a worker work whose pass has taken no turn yet, until it has ended.
+fn work<R: Wait + Threads + Sync, D: Door + Send, C: Clock + Send, V: Solve + Send>(
+    rt: &R,
+    alloc: Global,
+    lobby: &Lobby,
+    keys: &Keys,
+    shift: &mut Shift<D, C, V>,
+)
+    requires ready { IsReady lobby.now shift.old.pass }
+    requires fresh { shift.old.pass.turns ≡ [] }
+    requires players { AreKeysOfPlayers (length lobby.now.fixed.players) keys.now }
+    requires solvers { 0 < vec_len shift.old.worker.solvers }
+    ensures { HasWorked lobby.now shift.old.pass.number (C.moments shift.old.worker.clock) shift.new.pass }
+{
+    worker(rt, alloc, lobby, keys, &mut shift.pass, &mut shift.worker);
+}
+
 /// Lets all workers work, each in a thread of its own where one can be made, until each has ended.
 pub(crate) fn work_all<R: Wait + Threads + Sync, D: Door + Send, C: Clock + Send, V: Solve + Send>(
     rt: &R,
@@ -50,10 +67,12 @@ pub(crate) fn work_all<R: Wait + Threads + Sync, D: Door + Send, C: Clock + Send
 )
     requires some { 0 < length shifts.old }
     requires ready { All (λ shift. IsReady lobby.now shift.pass) shifts.old }
+    requires fresh { All (λ shift. shift.pass.turns ≡ []) shifts.old }
     requires players { AreKeysOfPlayers (length lobby.now.fixed.players) keys.now }
     requires solvers { All (λ shift. 0 < vec_len shift.worker.solvers) shifts.old }
     ensures { (i : ℕ) (d : _) → i < length shifts.old
-        → HasWorked lobby.now (C.moments (slice_index_or shifts.old i d).worker.clock) (slice_index_or shifts.new i d).pass }
+        → HasWorked lobby.now (slice_index_or shifts.old i d).pass.number
+        (C.moments (slice_index_or shifts.old i d).worker.clock) (slice_index_or shifts.new i d).pass }
 {
     let threads = shifts.len();
     thread::for_each_mut(
@@ -61,11 +80,12 @@ pub(crate) fn work_all<R: Wait + Threads + Sync, D: Door + Send, C: Clock + Send
         shifts,
         threads,
         &|_: usize, shift: &mut Shift<D, C, V>|
-            requires { IsSync R.row × IsReady lobby.now shift.now.pass
+            requires { IsSync R.row × IsReady lobby.now shift.now.pass × (shift.now.pass.turns ≡ [])
                 × AreKeysOfPlayers (length lobby.now.fixed.players) keys.now × (0 < vec_len shift.now.worker.solvers) }
-            ensures { HasWorked lobby.entry.now (C.moments shift.entry.now.worker.clock) shift.exit.now.pass }
+            ensures { HasWorked lobby.entry.now shift.entry.now.pass.number
+                (C.moments shift.entry.now.worker.clock) shift.exit.now.pass }
         {
-            worker(rt, alloc, lobby, keys, &mut shift.pass, &mut shift.worker);
+            work(rt, alloc, lobby, keys, shift);
         },
     );
 }

@@ -123,7 +123,7 @@ pub fn worker<R: Wait + Threads + Sync, D: Door, C: Clock, V: Solve + Send>(
     ensures ready { IsReady lobby.now pass.new }
 
     // That history begins with all that the pass had seen, the clock gave one moment for each turn that was taken, and the answer
-    // has its reason there: `Over` at the length and the moment of one of these turns.
+    // has its reason there: `Over` in all that the pass has seen, at the moment of the last of these turns.
     ensures works { Works lobby.now.fixed (state_of pass.old (C.moments w.old.clock))
         (state_of pass.new (C.moments w.new.clock)) (Some result) }
 {

@@ -19,6 +19,6 @@ for_each_mut-requires-sync-F g c κs within = search (sendable, lobby_sync, keys
 pub returns : goal.returns
 returns g c = λ i d below.
     let at = (c.for_each_mut.ensures i d below).1 in
-    let had = λ (x y : Shift g.row.D.Denot g.row.C.Denot g.row.V.Denot). HasWorked c.args.lobby.now (g.C.Clock.moments x.worker.clock) y.pass in
+    let had = λ (x y : Shift g.row.D.Denot g.row.C.Denot g.row.V.Denot). HasWorked c.args.lobby.now x.pass.number (g.C.Clock.moments x.worker.clock) y.pass in
     subst (λ (x : Shift g.row.D.Denot g.row.C.Denot g.row.V.Denot). had x (slice_index_or c.for_each_mut.new.s i d)) at.argument_is
     (subst (λ (y : Shift g.row.D.Denot g.row.C.Denot g.row.V.Denot). had at.argument.now y) at.left at.call)

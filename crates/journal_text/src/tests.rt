@@ -119,10 +119,13 @@ fn name(text: &Text) -> &str {
     std::str::from_utf8(text.bytes()).unwrap_or("not UTF-8")
 }
 
-/// Shows what a setup says beside its teams and players.
-fn show_setup(shown: &mut String, setup: &Setup) -> Result<(), AllocError> {
-    write!(shown, "{:?}\n", setup.control)?;
-    write!(shown, "starts {}, ends {}, ", setup.starts, setup.ends)?;
+/// Shows when an arena starts and ends.
+fn show_window(shown: &mut String, setup: &Setup) -> Result<(), AllocError> {
+    write!(shown, "starts {}, ends {}, ", setup.starts, setup.ends)
+}
+
+/// Shows how long an arena waits before a wave, and how many leaders it has.
+fn show_waves(shown: &mut String, setup: &Setup) -> Result<(), AllocError> {
     write!(shown, "wave {}, leaders {}\n", setup.wave_ms, setup.leaders)
 }
 
@@ -168,7 +171,9 @@ fn show_starts(shown: &mut String, starts: &[Start]) -> Result<(), AllocError> {
 fn show(shown: &mut String, journal: &Journal) -> Result<(), AllocError> {
     let setup = &journal.setup;
     write!(shown, "version {}, rule {}\n", journal.version, setup.rule)?;
-    show_setup(shown, setup)?;
+    write!(shown, "{:?}\n", setup.control)?;
+    show_window(shown, setup)?;
+    show_waves(shown, setup)?;
     show_teams(shown, setup.teams.items())?;
     show_players(shown, setup.players.items())?;
     show_entries(shown, journal.entries.items())?;
@@ -211,12 +216,23 @@ fn a_journal_is_written_and_read_back(rt: HostRuntime) -> Result<(), Fail> {
     Ok(())
 }
 
-/// Puts the line of each entry, written by itself.
+/// Puts a line and its line feed.
+fn put_line(lines: &mut Vec<u8>, line: &[u8]) -> Result<(), AllocError> {
+    lines.extend_from_slice(line)?;
+    lines.push(b'\n')?;
+    Ok(())
+}
+
+/// Puts the line of an entry, written by itself.
+fn put_entry(lines: &mut Vec<u8>, alloc: Global, entry: &Entry) -> Result<(), AllocError> {
+    let line = write_entry(alloc, entry)?;
+    put_line(lines, line.bytes())
+}
+
+/// Puts the line of each entry.
 fn put_entries(lines: &mut Vec<u8>, alloc: Global, entries: &[Entry]) -> Result<(), AllocError> {
     for entry in entries {
-        let line = write_entry(alloc, entry)?;
-        lines.extend_from_slice(line.bytes())?;
-        lines.push(b'\n')?;
+        put_entry(lines, alloc, entry)?;
     }
     Ok(())
 }

@@ -178,10 +178,13 @@ fn name(text: &Text) -> &str {
     std::str::from_utf8(text.bytes()).unwrap_or("not UTF-8")
 }
 
-/// Shows what a setup says beside its teams and players.
-fn show_head(shown: &mut String, setup: &Setup) -> Result<(), AllocError> {
-    write!(shown, "rule {}, {:?}\n", setup.rule, setup.control)?;
-    write!(shown, "starts {}, ends {}, ", setup.starts, setup.ends)?;
+/// Shows when an arena starts and ends.
+fn show_window(shown: &mut String, setup: &Setup) -> Result<(), AllocError> {
+    write!(shown, "starts {}, ends {}, ", setup.starts, setup.ends)
+}
+
+/// Shows how long an arena waits before a wave, and how many leaders it has.
+fn show_waves(shown: &mut String, setup: &Setup) -> Result<(), AllocError> {
     write!(shown, "wave {}, leaders {}\n", setup.wave_ms, setup.leaders)
 }
 
@@ -217,7 +220,9 @@ fn show_owners(shown: &mut String, keys: &Keys, asked: &[&str]) -> Result<(), Al
 
 /// Shows a whole setup, and whose keys these are.
 fn show(shown: &mut String, setup: &Setup, keys: &Keys, asked: &[&str]) -> Result<(), AllocError> {
-    show_head(shown, setup)?;
+    write!(shown, "rule {}, {:?}\n", setup.rule, setup.control)?;
+    show_window(shown, setup)?;
+    show_waves(shown, setup)?;
     show_teams(shown, setup.teams.items())?;
     show_players(shown, setup.players.items())?;
     show_owners(shown, keys, asked)

@@ -2,17 +2,14 @@
 
 use super::*;
 
-/// A wave that lists so many games.
-fn long_wave(alloc: Global, games: u32) -> Result<String, AllocError> {
-    let mut line = String::from_str(alloc, "wave 3")?;
-    for _ in 0..games {
-        line.push_str(" 1-2")?;
-    }
-    changed(alloc, LISTED, "wave 3 1-2 3-0", line.as_str())
+/// A text with a wave that lists so many games.
+fn long_wave(alloc: Global, games: usize) -> Result<String, AllocError> {
+    let games = " 1-2".repeat(alloc, games)?;
+    changed(alloc, LISTED, " 1-2 3-0", games.as_str())
 }
 
 /// What is found of a text whose wave lists so many games.
-fn finding_of_wave(alloc: Global, games: u32) -> Result<String, AllocError> {
+fn finding_of_wave(alloc: Global, games: usize) -> Result<String, AllocError> {
     let text = long_wave(alloc, games)?;
     finding(alloc, text.as_bytes())
 }
@@ -26,28 +23,53 @@ fn a_wave_lists_at_most_500_games(rt: HostRuntime) -> Result<(), Fail> {
     Ok(())
 }
 
-/// A text with so many teams and players, each of whom enters and pauses in turn, for so many entries.
-fn long_text(alloc: Global, teams: u32, players: u32, entries: u32) -> Result<String, AllocError> {
-    let mut text = String::from_str(
-        alloc,
-        "arena 1\ncontrol 180 2 20000\nwindow 0 3600000\nwave 5000\nleaders 1\n",
-    )?;
+/// Puts the lines of so many teams.
+fn put_teams(text: &mut String, teams: u32) -> Result<(), AllocError> {
     for t in 0..teams {
         write!(text, "team team{t}\n")?;
     }
+    Ok(())
+}
+
+/// Puts the lines of so many players.
+fn put_players(text: &mut String, players: u32) -> Result<(), AllocError> {
     for p in 0..players {
         write!(text, "player 1500 - player{p}\n")?;
     }
-    text.push_str("begin\n")?;
-    for e in 0..entries {
-        let player = e % players.max(1);
-        if e / players.max(1) % 2 == 0 {
-            write!(text, "{e} 0 enter {player}\n")?;
-        } else {
-            write!(text, "{e} 0 pause {player}\n")?;
-        }
+    Ok(())
+}
+
+/// What the player of this entry does, where each enters and pauses in turn.
+fn wish(entry: u32, players: u32) -> &'static str {
+    if entry / players.max(1) % 2 == 0 {
+        "enter"
+    } else {
+        "pause"
     }
-    text.push_str("end\n")?;
+}
+
+/// Puts the lines of so many entries, in which each of the players enters and pauses in turn.
+fn put_wishes(text: &mut String, players: u32, entries: u32) -> Result<(), AllocError> {
+    for e in 0..entries {
+        write!(text, "{e} 0 {} {}\n", wish(e, players), e % players.max(1))?;
+    }
+    Ok(())
+}
+
+/// Puts the lines of so many teams and players, and of so many entries.
+fn put_long(text: &mut String, teams: u32, players: u32, entries: u32) -> Result<(), AllocError> {
+    text.push_str("arena 1\ncontrol 180 2 20000\nwindow 0 3600000\nwave 5000\nleaders 1\n")?;
+    put_teams(text, teams)?;
+    put_players(text, players)?;
+    text.push_str("begin\n")?;
+    put_wishes(text, players, entries)?;
+    text.push_str("end\n")
+}
+
+/// A text with so many teams and players, each of whom enters and pauses in turn, for so many entries.
+fn long_text(alloc: Global, teams: u32, players: u32, entries: u32) -> Result<String, AllocError> {
+    let mut text = String::new(alloc);
+    put_long(&mut text, teams, players, entries)?;
     Ok(text)
 }
 

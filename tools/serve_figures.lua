@@ -52,7 +52,14 @@ function init(words)
     end
   end
   local table_text = text("GET", "standing/0", games[1][2], kind == "once" and "Connection: close\r\n")
-  request = kind == "moves" and moves(line, games) or kind == "wishes" and wishes(games) or function() return table_text end
+  local next_text = kind == "moves" and moves(line, games) or kind == "wishes" and wishes(games) or function() return table_text end
+  -- Before it begins, wrk has the first thread make a request that it does not send.
+  local begun = number > 0
+  request = function()
+    if begun then return next_text() end
+    begun = true
+    return table_text
+  end
 end
 
 function done(summary)

@@ -1,50 +1,27 @@
 #!/usr/bin/env python3
-"""figures.py NAME: builds the program of tools/figures/NAME.txt over the crates of the repository, runs it and prints its lines.
+"""figures.py NAME [FOLDER]: builds the program of tools/figures/NAME.txt over the crates of the repository, runs it and prints its
+lines. The built program is put into FOLDER, if one is named, and can be run from there again.
 
-The file has parts, each behind a line '== PLACE': the program's line of crates.txt, and the files of its crate. The program is proved
-and built by LLVM in a copy of the repository, and stands in no gate: what it prints is a time or a size, and differs from run to run."""
+The program is proved and built by LLVM in a copy of the repository, and stands in no gate: what it prints is a time or a size, and
+differs from run to run."""
 
 import os
 import shutil
 import subprocess
 import sys
-import tempfile
 
-TOP = os.path.dirname(os.path.dirname(os.path.abspath(__file__)))
-
-
-def parts_of(text):
-    """The parts of a file, by their places."""
-    parts, place = {}, None
-    for line in text.splitlines(keepends=True):
-        if line.startswith("== "):
-            place = line[3:].strip()
-            parts[place] = ""
-        elif place:
-            parts[place] += line
-    return parts
+from program_texts import placed
 
 
-def main(name):
-    with open(os.path.join(TOP, "tools", "figures", name + ".txt"), encoding="utf-8") as file:
-        parts = parts_of(file.read())
-    line = parts.pop("crates.txt")
-    program = line.split(":")[0].strip()
-    with tempfile.TemporaryDirectory() as copy:
-        shutil.copytree(os.path.join(TOP, "crates"), os.path.join(copy, "crates"), ignore=shutil.ignore_patterns("out"))
-        for file in ("crates.txt", "HANDLES"):
-            shutil.copy(os.path.join(TOP, file), copy)
-        with open(os.path.join(copy, "crates.txt"), "a", encoding="utf-8") as crates:
-            crates.write(line)
-        for place, text in parts.items():
-            path = os.path.join(copy, "crates", program, place)
-            os.makedirs(os.path.dirname(path), exist_ok=True)
-            with open(path, "w", encoding="utf-8") as file:
-                file.write(text)
-        return subprocess.run(["rt", "run"], cwd=os.path.join(copy, "crates", program), check=False).returncode
+def main(name, keep=None):
+    with placed("figures", name) as folder:
+        status = subprocess.run(["rt", "run"], cwd=folder, check=False).returncode
+        if keep and status == 0:
+            shutil.copy(os.path.join(folder, "out", os.path.basename(folder)), keep)
+    return status
 
 
 if __name__ == "__main__":
-    if len(sys.argv) != 2:
+    if len(sys.argv) not in (2, 3):
         sys.exit(__doc__)
-    sys.exit(main(sys.argv[1]))
+    sys.exit(main(*sys.argv[1:]))

@@ -4,7 +4,13 @@ these words and this input once for each allocation that it makes, which is then
 
 It prints how many allocations there are and how the whole run ends, then how many of the other runs ended in which way, and a line
 for each that wrote something and ended otherwise. The allocator of the C library is stood in for by LD_PRELOAD, so that the program
-itself is the one that was built."""
+itself is the one that was built.
+
+refused_growths.py --try NAME [--most N] [--step N]: does the same with the program of tools/refused_growths/NAME.txt, which needs no
+proof, for its first N allocations or so, or for one in so many of them: rt try runs it with all its checks. The program makes as many
+small allocations first as its argument says, so that the one with a fixed number is another of its own each time, and judges itself
+what is left behind a refused one. It prints how many runs ended with which status, and a line for each that did not end. The program
+says what its statuses mean; 42 is that none of its own was refused since it makes fewer, and 43 that one before its own was."""
 
 import argparse
 import collections
@@ -12,6 +18,8 @@ import os
 import subprocess
 import sys
 import tempfile
+
+from program_texts import placed
 
 SHIM = r"""
 #include <errno.h>
@@ -79,10 +87,33 @@ def main(words, first, step):
         print(f"{times} times status {status}, {wrote} written")
 
 
+def try_each(name, most, step):
+    """Tries the program of a text file with each of its first allocations refused in turn."""
+    with placed("refused_growths", name) as folder, tempfile.TemporaryDirectory() as cases:
+        for first in range(0, most, step):
+            for ending, text in (("", ""), (".args", f"{first}\n")):
+                with open(os.path.join(cases, f"{first:06}{ending}"), "w", encoding="ascii") as file:
+                    file.write(text)
+        words = ["rt", "try", "--fail-alloc", str(most), "--cases", cases]
+        told = subprocess.run(words, cwd=folder, stdout=subprocess.PIPE, stderr=subprocess.STDOUT, text=True, check=False).stdout
+    lines = [line for line in told.splitlines() if line.startswith("case=")]
+    for line in [line for line in lines if "run=ended" not in line] or told.splitlines()[-1:]:
+        print(line)
+    for end, times in sorted(collections.Counter(" ".join(line.split()[1:3]) for line in lines).items()):
+        print(f"{times} times {end}")
+
+
 if __name__ == "__main__":
     options = argparse.ArgumentParser(description=__doc__, formatter_class=argparse.RawDescriptionHelpFormatter)
-    options.add_argument("words", nargs="+", metavar="WORD")
+    options.add_argument("words", nargs="*", metavar="WORD")
     options.add_argument("--first", type=int, default=1)
     options.add_argument("--step", type=int, default=1)
+    options.add_argument("--try", dest="name")
+    options.add_argument("--most", type=int, default=2000)
     chosen = options.parse_args()
-    main(chosen.words, chosen.first, chosen.step)
+    if chosen.name:
+        try_each(chosen.name, chosen.most, chosen.step)
+    elif chosen.words:
+        main(chosen.words, chosen.first, chosen.step)
+    else:
+        options.error("no program")

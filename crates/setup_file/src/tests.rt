@@ -98,9 +98,9 @@ const WHOLES: [(&[u8], &str); 11] = [
 
 #[test]
 fn the_whole_file_is_a_json_object(rt: HostRuntime) -> Result<(), Fail> {
-    for (bytes, wanted) in WHOLES {
+    for (bytes, wanted) in WHOLES.iter() {
         let found = fault(rt.alloc(), bytes)?;
-        assert_eq!(rt; found.as_str(), wanted);
+        assert_eq!(rt; found.as_str(), *wanted);
     }
     Ok(())
 }

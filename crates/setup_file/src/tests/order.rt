@@ -77,9 +77,9 @@ fn the_number_of_elements_comes_before_their_names(rt: HostRuntime) -> Result<()
         ("\"R\"", 99, "Teams 1 Repeat"),
         ("\"R\"", 100, "Teams 0 Range"),
     ];
-    for (team, more, wanted) in rows {
-        let found = fault_of_teams(rt.alloc(), team, more)?;
-        assert_eq!(rt; found.as_str(), wanted);
+    for (team, more, wanted) in rows.iter() {
+        let found = fault_of_teams(rt.alloc(), team, *more)?;
+        assert_eq!(rt; found.as_str(), *wanted);
     }
     Ok(())
 }

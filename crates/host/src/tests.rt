@@ -1,4 +1,4 @@
-ghost use Rattle.std.specs.Prelude.{◌≡◌, ◌≤◌, All, IfOk, length};
+ghost use Rattle.std.specs.Prelude.{◌≡◌, ◌≤◌, ◌<◌, All, IfOk, length};
 ghost use Rattle.entries.specs.Ranges.{IsGood};
 ghost use Rattle.setup_file.specs.Keys.{AreKeysOf};
 ghost use Rattle.arena_lock.specs.Turns.{IsReady};

@@ -1,6 +1,6 @@
 //! Connections side by side.
 
-ghost use Rattle.std.specs.Prelude.{◌≡◌, ◌<◌, ◌-◌, ◌^◌, All, IfOk, IfSome, length};
+ghost use Rattle.std.specs.Prelude.{◌≡◌, ◌<◌, All, IfOk, IfSome, length};
 ghost use Rattle.entries.specs.Ranges.{IsGood};
 ghost use Rattle.arena_lock.specs.Turns.{IsReady};
 ghost use Rattle.host.specs.Asked.{AreKeysOfPlayers};
@@ -116,29 +116,27 @@ fn body(what: What) -> &'static str {
     }
 }
 
-/// Puts the response to the command that entry `i` came from behind others, if it is the pass's. It was seen as the last.
+/// Puts the response to the command that an entry came from behind others, if it is the pass's. So many entries were seen.
 fn put_response(
     alloc: Global,
     text: &mut String,
-    i: u64,
+    seen: u64,
     entry: Entry,
     pass: u32,
-) -> Result<(), AllocError>
-    requires fits { i < 2 ^ 64 - 1 }
-{
+) -> Result<(), AllocError> {
     if entry.pass != pass {
         return Ok(());
     }
-    let one = response(alloc, "200 OK", i + 1, "", body(entry.what))?;
+    let one = response(alloc, "200 OK", seen, "", body(entry.what))?;
     text.push_str(one.as_str())
 }
 
-/// What the responses to a pass's accepted commands are by the journal.
+/// What the responses to a pass's accepted commands are by the journal: each was seen with the entry that it made as the last.
 fn responses(alloc: Global, journal: &Arena, pass: u32) -> Result<String, AllocError> {
     let mut text = String::new(alloc);
     for i in 5..journal.len() {
         if let Some(entry) = journal.entry(i) {
-            put_response(alloc, &mut text, i, entry, pass)?;
+            put_response(alloc, &mut text, i + 1, entry, pass)?;
         }
     }
     Ok(text)

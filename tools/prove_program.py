@@ -102,7 +102,7 @@ def prove(screen, run, total):
         if ended:
             return run.process.returncode == 0
         last = f", {done[-1]} the last" if done else ""
-        screen.renew(f"{told} of {total} crates proved{last}, {screen.spent()} so far")
+        screen.renew(f"{told} of {total} crates done{last}, {screen.spent()} so far")
         time.sleep(0.3)
 
 

@@ -18,6 +18,3 @@ pub use call::Call;
 pub use error::{ApiError, extra, status};
 pub use resource::{Method, OwnResource, Resource};
 pub use routes::Routes;
-
-#[cfg(test)]
-mod tests;

@@ -1,6 +1,6 @@
 //! The route table.
 
-ghost use Rattle.std.specs.Prelude.{◌≡◌, IfOk, true};
+ghost use Rattle.std.specs.Prelude.{◌≡◌, [], OnOk, true};
 ghost use Rattle.std.specs.List.{list_all};
 ghost use Rattle.api.specs.Calls.{is_visible, found, call_of};
 ghost use Rattle.api.specs.Paths.{resource_of};
@@ -36,8 +36,9 @@ impl Model for Routes {
 impl Routes {
     /// The route table. It takes some memory for each of its fourteen rows.
     pub fn new(alloc: Global) -> Result<Routes, AllocError> {
-        match filled(alloc) {
-            Ok(router) => Ok(Routes { router }),
+        let mut router = Router::new(alloc);
+        match insert_rows(&mut router) {
+            Ok(()) => Ok(Routes { router }),
             Err(_) => Err(AllocError),
         }
     }
@@ -85,11 +86,11 @@ fn are_visible(path: &[u8]) -> bool
     path.iter().all(|b| 33 <= *b && *b <= 126)
 }
 
-// The router with all rows.
-fn filled(alloc: Global) -> Result<Router<Resource>, InsertError>
-    ensures { IfOk result (λ router. router ≡ table) }
+// Puts all rows into an empty router.
+fn insert_rows(router: &mut Router<Resource>) -> Result<(), InsertError>
+    requires { router.old ≡ [] }
+    ensures { OnOk result (router.new ≡ table) }
 {
-    let mut router = Router::new(alloc);
     router.insert("/api/arena", Resource::Arena)?;
     router.insert("/api/standing/{page}", Resource::Standing)?;
     router.insert("/api/teams", Resource::Teams)?;
@@ -113,5 +114,5 @@ fn filled(alloc: Global) -> Result<Router<Resource>, InsertError>
         "/api/game/{id}/berserk",
         Resource::Own(OwnResource::Berserk),
     )?;
-    Ok(router)
+    Ok(())
 }

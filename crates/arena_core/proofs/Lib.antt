@@ -9,7 +9,6 @@ pub mod Maps
 pub mod Placed
 pub mod Playing
 pub mod Replied
-pub mod Scripts
 pub mod Seating
 pub mod Shown
 pub mod Starters

@@ -17,8 +17,6 @@ mod pages;
 mod people;
 mod refusals;
 mod starting;
-#[cfg(test)]
-mod tests;
 mod views;
 mod waiting;
 mod wishing;

@@ -7,6 +7,3 @@
 mod lobby;
 
 pub use lobby::{Lobby, Pass};
-
-#[cfg(test)]
-mod tests;

@@ -12,6 +12,3 @@ mod turn;
 
 pub use directing::director_turn;
 pub use turn::{Turn, TurnFault, WaveEnd};
-
-#[cfg(test)]
-mod tests;

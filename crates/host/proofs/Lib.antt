@@ -2,7 +2,6 @@ pub mod Asking
 pub mod Calling
 pub mod Completing
 pub mod Endings
-pub mod Keyed
 pub mod Reading
 pub mod Replying
 pub mod Shown

@@ -15,6 +15,3 @@ mod serving;
 
 pub use ended::Ended;
 pub use serving::serve_connection;
-
-#[cfg(test)]
-mod tests;

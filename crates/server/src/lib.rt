@@ -19,6 +19,3 @@ pub use load::{LoadFault, load_setup};
 pub use serve_end::ServeEnd;
 pub use workers::{Worker, WorkerEnd};
 pub use working::worker;
-
-#[cfg(test)]
-mod tests;

@@ -1,9 +1,0 @@
-use Rattle.std.proofs.Common.{rules}
-use Rattle.matchit.proofs.OnLiterals.{matchit_on_literals}
-use Rattle.api.specs.Table.{table}
-use Rattle.api.proofs.routes.filled.Goals as goal
-
-pub returns : goal.returns
-unfolding matchit_on_literals table
-returns c =
-    rw (c.in_ok-insert-13.ensures.1, c.in_ok-insert-12.ensures.1, c.in_ok-insert-11.ensures.1, c.in_ok-insert-10.ensures.1, c.in_ok-insert-9.ensures.1, c.in_ok-insert-8.ensures.1, c.in_ok-insert-7.ensures.1, c.in_ok-insert-6.ensures.1, c.in_ok-insert-5.ensures.1, c.in_ok-insert-4.ensures.1, c.in_ok-insert-3.ensures.1, c.in_ok-insert-2.ensures.1, c.in_ok-insert.ensures.1, c.new-router.ensures) at c.in_ok-insert-14.ensures.1

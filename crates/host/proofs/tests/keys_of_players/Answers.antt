@@ -1,8 +1,0 @@
-use Rattle.std.proofs.Common.{length}
-use Rattle.host.proofs.Keyed.{keys_of_players}
-use Rattle.host.proofs.tests.keys_of_players.Goals as goal
-
-pub returns : goal.returns
-returns c = record {
-  players = keys_of_players (length c.args.setup.now.players) c.args.keys.now c.requires.own;
-}

@@ -1,5 +1,5 @@
 -- A plan is that of what its pass has seen, whatever the pass sees later.
-use Rattle.std.proofs.Common.{◌≡◌, ℕ, List, ◌++◌, Result, Ok, Err, IfOk, refl, sym, ap, subst, ◌∙◌}
+use Rattle.std.proofs.Common.{◌≡◌, ℕ, List, Result, Ok, Err, IfOk, sym, ap, subst}
 use Rattle.std.specs.declared.alloc.AllocError.{AllocError}
 use Rattle.entries.specs.declared.journal.Entry.{Entry}
 use Rattle.entries.specs.declared.setup.Setup.{Setup}
@@ -10,9 +10,7 @@ use Rattle.wave.specs.declared.snapshot.Plan.{Plan}
 use Rattle.wave.specs.declared.snapshot.Snapshot.{Snapshot}
 use Rattle.wave.specs.Plans.{planned_pairs, planned_alone}
 use Rattle.wave.specs.Rankings.{IsRanking}
-use Rattle.arena_history.specs.Snapshots.{plan, snapshot}
 use Rattle.arena_history.specs.Stamps.{stamp_of}
-use Rattle.arena_history.specs.Waves.{history}
 use Rattle.arena_rules.specs.declared.commit_fault.CommitFault.{CommitFault}
 use Rattle.arena_rules.specs.Commits.{IsPlanOf}
 use Rattle.arena_rules.specs.Legal.{IsLegal}
@@ -20,15 +18,12 @@ use Rattle.arena_rules.specs.PlanLaws.{PlansAreOfTheirEntries, PlansStay}
 use Rattle.arena_rules.specs.RankingLaws.{SnapshotsAreRankings}
 use Rattle.arena_lock.specs.Turns.{Committed, IsReady, Pass, Snapped, Turned, pass_of}
 use Rattle.arena_lock.proofs.Added.{by_commit}
+use Rattle.arena_main.proofs.Plans.{is_plan_of, is_ranking as rows_are_ranking}
 
 seen_is_left : (old new : Pass) (found left : List Entry) → Turned old new found left → new.seen ≡ left
 seen_is_left old new found left turn = ap (λ (p : Pass). p.seen) turn.after
 
 -- the rows of a snapshot are a ranking
-rows_are_ranking : SnapshotsAreRankings → (s : Setup) (es : List Entry) (t : ℕ) (x : Snapshot) → IsGood s → IsLegal s es → x ≡ snapshot s (history s es) t → IsRanking x.rows
-unfolding snapshot
-rows_are_ranking rankings s es t x good legal taken = subst (λ (y : Snapshot). IsRanking y.rows) (sym taken) (rankings s es good legal)
-
 pub is_ranking : SnapshotsAreRankings → (lobby : Lock Setup) (old new : Pass) (now : ℕ) (x : Snapshot) → IsGood lobby.fixed → IsReady lobby new → Snapped lobby.fixed old new now (Ok x) → IsRanking x.rows
 is_ranking rankings lobby old new now x good ready snapped =
     let s = lobby.fixed in
@@ -36,16 +31,6 @@ is_ranking rankings lobby old new now x good ready snapped =
     rows_are_ranking rankings s snapped.found (stamp_of snapped.found now) x good legal snapped.answer
 
 -- the plan of a snapshot is the plan of its entries
-is_plan_of : PlansAreOfTheirEntries → (s : Setup) (es : List Entry) (t : ℕ) (x : Snapshot) (p : Plan) → x ≡ snapshot s (history s es) t → p.n ≡ x.n → p.pairs ≡ planned_pairs x.rule x.rows → p.alone ≡ planned_alone x.rule x.rows → IsPlanOf s es p
-unfolding snapshot plan
-is_plan_of own s es t x p taken n pairs alone =
-    let same : p ≡ plan s (history s es) = λ i. record {
-      n = (n ∙ ap (λ (y : Snapshot). y.n) taken) i;
-      pairs = (pairs ∙ ap (λ (y : Snapshot). planned_pairs y.rule y.rows) taken) i;
-      alone = (alone ∙ ap (λ (y : Snapshot). planned_alone y.rule y.rows) taken) i;
-    } in
-    subst (IsPlanOf s es) (sym same) (own s es)
-
 pub answered_is_plan_of : PlansAreOfTheirEntries → (s : Setup) (old new : Pass) (now : ℕ) (x : Snapshot) (r : Result Plan AllocError) → Snapped s old new now (Ok x) → IfOk r (λ p. p.n ≡ x.n) → IfOk r (λ p. p.pairs ≡ planned_pairs x.rule x.rows) → IfOk r (λ p. p.alone ≡ planned_alone x.rule x.rows) → IfOk r (IsPlanOf s new.seen)
 answered_is_plan_of own s old new now x (Ok p) snapped n pairs alone =
     subst (λ (es : List Entry). IsPlanOf s es p) (sym (seen_is_left old new snapped.found snapped.found snapped.turn)) (is_plan_of own s snapped.found (stamp_of snapped.found now) x p snapped.answer n pairs alone)

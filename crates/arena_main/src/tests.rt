@@ -1,3 +1,14 @@
+//! What the program's words come to, and below it what crosses crates: requests and bodies, the arena, its lock, the director's
+//! turns, connections and whole evenings.
+
+mod arena;
+mod connections;
+mod evenings;
+mod lobbies;
+mod lock;
+mod requests;
+mod turns;
+
 use crate::{Form, Status, form, run};
 use conn::{MemSink, MemSource, Text};
 use std::alloc::{AllocError, Global};

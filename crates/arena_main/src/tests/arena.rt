@@ -1,3 +1,5 @@
+//! The arena by itself: evenings of sixteen players, line by line.
+
 ghost use Rattle.arena_rules.specs.Commits.{IsPlanOf};
 
 use arena_core::Arena;

@@ -1,8 +1,9 @@
-ghost use Rattle.std.specs.Prelude.{◌≡◌, ◌≤◌, ◌<◌, All, IfOk, length};
+//! Connections to an arena of four players.
+
+ghost use Rattle.std.specs.Prelude.{◌≡◌, IfOk, length};
 ghost use Rattle.entries.specs.Ranges.{IsGood};
 ghost use Rattle.setup_file.specs.Keys.{AreKeysOf};
 ghost use Rattle.arena_lock.specs.Turns.{IsReady};
-ghost use Rattle.arena_rules.specs.Commits.{IsPlanOf};
 ghost use Rattle.host.specs.Asked.{AreKeysOfPlayers};
 
 mod faults;
@@ -11,16 +12,13 @@ mod requests;
 mod threads;
 mod wires;
 
-use arena_core::{Arena, Command};
+use super::lobbies::{enter, planned};
 use arena_lock::{Lobby, Pass};
-use arena_rules::{plans_of_entries, tables_of_legal_lists};
 use entries::Setup;
-use group_pairing::Bench;
 use setup_file::{Keys, read_setup};
 use std::alloc::{AllocError, Global};
 use std::sync::Wait;
 use std::thread::Threads;
-use wave::{Plan, plan};
 
 const SETUP: &[u8] =
     br#"{"control":{"initial":180,"increment":2},"starts":0,"ends":3600000,"leaders":1,"players":[{"name":"alice","rating":2000,"key":"alicekey00000001"},{"name":"bob","rating":1900,"key":"bobskey000000002"},{"name":"carol","rating":1500,"key":"carolkey00000003"},{"name":"dave","rating":1400,"key":"daveskey00000004"}]}"#;
@@ -57,46 +55,6 @@ pub fn evening(alloc: Global) -> Result<(Setup, Keys), AllocError>
         Ok((setup, keys)) => of_four(setup, keys),
         Err(_) => Err(AllocError),
     }
-}
-
-/// A lobby over a setup and its passes, before anything happened.
-pub fn opened(alloc: Global, setup: Setup, passes: u32) -> Result<(Lobby, Vec<Pass>), AllocError>
-    requires good { IsGood setup }
-    requires some { (1 ≤ passes) × (passes ≤ 256) }
-    ensures setup { IfOk result (λ r. r.0.fixed ≡ setup) }
-    ensures number { IfOk result (λ r. r.0.passes ≡ passes) }
-    ensures ready { IfOk result (λ r. All (IsReady r.0) r.1.items) }
-{
-    let arena = Arena::new(alloc, setup)?;
-    Lobby::new(alloc, arena, passes)
-}
-
-/// Whether a player's entering is accepted.
-pub fn enter<R: Wait>(rt: &R, lobby: &Lobby, pass: &mut Pass, now: u64, player: u32) -> bool
-    requires player { player < length lobby.now.fixed.players }
-    requires ready { IsReady lobby.now pass.old }
-    ensures ready { IsReady lobby.now pass.new }
-{
-    lobby.command(rt, pass, now, Command::Enter(player)).is_ok()
-}
-
-/// The plan of a snapshot at 1000. The snapshot takes a turn, and the planning none.
-fn planned<R: Threads + Wait + Sync>(
-    rt: &R,
-    alloc: Global,
-    lobby: &Lobby,
-    pass: &mut Pass,
-) -> Result<Plan, AllocError>
-    requires good { IsGood lobby.now.fixed }
-    requires ready { IsReady lobby.now pass.old }
-    ensures ready { IsReady lobby.now pass.new }
-    ensures plan { IfOk result (λ plan. IsPlanOf lobby.now.fixed pass.new.seen plan) }
-{
-    tables_of_legal_lists();
-    plans_of_entries();
-    let snapshot = lobby.snapshot(rt, alloc, pass, 1_000)?;
-    let mut solvers = vec![in alloc; Bench::new(alloc)?]?;
-    plan(rt, alloc, solvers.as_mut_slice(), &snapshot)
 }
 
 /// Whether the first wave, at 1000, starts one game.

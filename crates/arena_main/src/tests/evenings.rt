@@ -4,9 +4,9 @@ ghost use Rattle.std.specs.Prelude.{◌≡◌, ◌≤◌, ◌<◌, All, IfOk, le
 
 mod beside;
 
-use server::{LoadFault, ServeEnd, Worker, load_setup, serve_arena};
 use conn::{Door, MemClock, MemDoor, MemSink, MemSource};
 use group_pairing::{Bench, Solve};
+use server::{LoadFault, ServeEnd, Worker, load_setup, serve_arena};
 use setup_file::{Member, SetupCause, SetupFault};
 use std::alloc::{AllocError, Global};
 use std::process::Abort;

@@ -1,3 +1,5 @@
+//! Requests, and the bodies of answers.
+
 ghost use Rattle.std.specs.Prelude.{◌≤◌, length, IfOk};
 ghost use Rattle.entries.specs.Ranges.{IsGood};
 

@@ -1,36 +1,21 @@
-ghost use Rattle.std.specs.Prelude.{◌≡◌, ◌<◌, ◌∷◌, [], IfOk, IfSome, length};
+//! Turns of the director, over evenings of two players.
+
+ghost use Rattle.std.specs.Prelude.{◌≡◌, ◌<◌, IfOk, IfSome, length};
 ghost use Rattle.entries.specs.Ranges.{IsGood};
 ghost use Rattle.arena_lock.specs.Turns.{IsReady};
 
-use director::{TurnFault, director_turn};
-use arena_core::{Arena, Command};
+use super::lobbies::{CONTROL, named, opened_for_one};
+use arena_core::Command;
 use arena_lock::{Lobby, Pass};
 use conn::{List, MemClock, Text};
-use entries::{Control, Player, Setup};
+use director::{TurnFault, director_turn};
+use entries::Setup;
 use group_pairing::Bench;
 use std::alloc::{AllocError, Global};
 use std::process::Abort;
 use std::sync::Wait;
 use std::test::Fail;
 use std::thread::Threads;
-
-const CONTROL: Control = Control {
-    initial_ms: 180_000,
-    inc_ms: 2_000,
-    first_ms: 20_000,
-};
-
-fn named(alloc: Global, letter: u8, rating: u32, team: Option<u32>) -> Result<Player, AllocError>
-    ensures name { IfOk result (λ player. player.name ≡ letter ∷ []) }
-    ensures rating { IfOk result (λ player. player.rating ≡ rating) }
-    ensures team { IfOk result (λ player. player.team ≡ team) }
-{
-    Ok(Player {
-        name: Text::of(vec![in alloc; letter]?),
-        rating,
-        team,
-    })
-}
 
 /// What differs between the evenings of the tests, each of alice and bob for an hour, with waves half a minute apart.
 #[derive(Debug, Clone, Copy)]
@@ -82,17 +67,11 @@ fn setup_of(alloc: Global, evening: Evening) -> Result<Setup, AllocError>
 }
 
 /// The lobby of an evening, and its one pass.
-fn opened(alloc: Global, evening: Evening) -> Result<(Lobby, Pass), Fail>
+fn opened(alloc: Global, evening: Evening) -> Result<(Lobby, Pass), AllocError>
     ensures two { IfOk result (λ r. length r.0.fixed.players ≡ 2) }
     ensures ready { IfOk result (λ r. IsReady r.0 r.1) }
 {
-    let setup = setup_of(alloc, evening)?;
-    let arena = Arena::new(alloc, setup)?;
-    let (lobby, mut passes) = Lobby::new(alloc, arena, 1)?;
-    let Some(pass) = passes.pop() else {
-        return Err(Fail::from(AllocError));
-    };
-    Ok((lobby, pass))
+    opened_for_one(alloc, setup_of(alloc, evening)?)
 }
 
 /// Both players ask to enter, if they do. Who is in already is refused, and stays in.

@@ -104,7 +104,7 @@ fn contestant(alloc: Global, evening: Evening, p: u32) -> Result<Player, AllocEr
     })
 }
 
-#[tactic(auto, using(crate::proofs::Scripts::names_differ))]
+#[tactic(auto, using(crate::proofs::Letters::names_differ))]
 fn players(alloc: Global, evening: Evening) -> Result<Vec<Player>, AllocError>
     ensures many { IfOk result (λ made. length made.items ≡ 16) }
     ensures good { IfOk result (λ made. All (IsPlayer 2) made.items) }

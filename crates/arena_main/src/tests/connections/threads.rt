@@ -5,12 +5,13 @@ ghost use Rattle.entries.specs.Ranges.{IsGood};
 ghost use Rattle.arena_lock.specs.Turns.{IsReady};
 ghost use Rattle.host.specs.Asked.{AreKeysOfPlayers};
 
+use super::super::lobbies::{enter, opened};
 use super::wires::{Line, WHOLE, connection, response, serve, times};
-use super::{begin_game, enter, evening, opened};
-use host::Ended;
+use super::{begin_game, evening};
 use arena_core::Arena;
 use arena_lock::{Lobby, Pass};
 use entries::{Action, Entry, Setup, What};
+use host::Ended;
 use setup_file::Keys;
 use std::alloc::{AllocError, Global};
 use std::process::Abort;

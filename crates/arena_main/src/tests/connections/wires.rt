@@ -5,12 +5,12 @@ ghost use Rattle.entries.specs.Ranges.{IsGood};
 ghost use Rattle.arena_lock.specs.Turns.{IsReady};
 ghost use Rattle.host.specs.Asked.{AreKeysOfPlayers};
 
-use super::{begin_game, evening, opened};
-use host::{Ended, serve_connection};
+use super::super::lobbies::opened_for_one;
+use super::{begin_game, evening};
 use arena_core::{Answer, Query};
 use arena_lock::{Lobby, Pass};
 use conn::{MemClock, MemSink, MemSource};
-use entries::Setup;
+use host::{Ended, serve_connection};
 use setup_file::Keys;
 use std::alloc::{AllocError, Global};
 use std::process::Abort;
@@ -141,19 +141,6 @@ fn comes_to<R: Wait + Abort>(
     assert_eq!(rt; ended, wanted.ended);
     assert_eq!(rt; line.sink.bytes(), wanted.text);
     assert_eq!(rt; entries(rt, alloc, lobby, pass), Some(wanted.entries));
-}
-
-/// A lobby over a setup and its one pass, before anything happened.
-fn opened_for_one(alloc: Global, setup: Setup) -> Result<(Lobby, Pass), AllocError>
-    requires good { IsGood setup }
-    ensures setup { IfOk result (λ r. r.0.fixed ≡ setup) }
-    ensures ready { IfOk result (λ r. IsReady r.0 r.1) }
-{
-    let (lobby, mut passes) = opened(alloc, setup, 1)?;
-    match passes.pop() {
-        Some(pass) => Ok((lobby, pass)),
-        None => Err(AllocError),
-    }
 }
 
 /// A connection at 0, before which nothing happened, comes to what is wanted.

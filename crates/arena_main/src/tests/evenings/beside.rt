@@ -3,10 +3,10 @@
 ghost use Rattle.std.specs.Prelude.{◌≡◌, ◌<◌, ◌≤◌, Some, None, All, IfOk, length, vec_len};
 
 use super::{serve, sink};
-use server::{ServeEnd, Worker};
 use conn::{Door, Failed, MemClock, MemSink, MemSource, Sink};
 use group_pairing::{Bench, Partners, Solve};
 use pair_cost::{Candidate, Frame};
+use server::{ServeEnd, Worker};
 use std::alloc::{AllocError, Global};
 use std::process::Abort;
 use std::sync::Wait;

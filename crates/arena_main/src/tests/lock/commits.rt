@@ -3,9 +3,10 @@ ghost use Rattle.entries.specs.Ranges.{IsGood};
 ghost use Rattle.arena_lock.specs.Turns.{IsReady};
 ghost use Rattle.arena_rules.specs.Commits.{IsPlanOf};
 
-use super::{duel, enter, one_team, opened_for_one, planned};
-use arena_lock::{Lobby, Pass};
+use super::super::lobbies::{enter, opened_for_one, planned};
+use super::{duel, one_team};
 use arena_core::CommitFault;
+use arena_lock::{Lobby, Pass};
 use arena_rules::plans_of_entries;
 use std::alloc::{AllocError, Global};
 use std::sync::Wait;
@@ -59,7 +60,7 @@ fn enter_and_commit<R: Threads + Wait + Sync>(
     requires two { length lobby.now.fixed.players ≡ 2 }
     requires ready { IsReady lobby.now pass.old }
 {
-    let both = enter(rt, lobby, pass, 0) && enter(rt, lobby, pass, 1);
+    let both = enter(rt, lobby, pass, 0, 0) && enter(rt, lobby, pass, 0, 1);
     let plan = planned(rt, alloc, lobby, pass)?;
     let answers = commit_thrice(rt, alloc, lobby, pass, &plan);
     Ok((both, answers, pass.seen()))
@@ -91,7 +92,7 @@ fn enter_all<R: Wait>(rt: &R, lobby: &Lobby, pass: &mut Pass) -> u32
 {
     let mut entered = 0u32;
     for player in 0..4 {
-        if enter(rt, lobby, pass, player) {
+        if enter(rt, lobby, pass, 0, player) {
             entered = entered.wrapping_add(1);
         }
     }

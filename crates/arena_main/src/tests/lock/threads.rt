@@ -4,9 +4,10 @@ ghost use Rattle.arena_lock.specs.Turns.{IsReady};
 ghost use Rattle.arena_rules.specs.Commands.{IsCommandOf};
 ghost use Rattle.arena_rules.specs.Queries.{IsQueryOf};
 
-use super::{does, duel, enter, one_team, opened, planned};
-use arena_lock::{Lobby, Pass};
+use super::super::lobbies::{enter, opened, planned};
+use super::{does, duel, one_team};
 use arena_core::{Answer, Arena, Command, Query};
+use arena_lock::{Lobby, Pass};
 use conn::List;
 use entries::{Action, Entry, What};
 use ranking::Row;
@@ -116,7 +117,7 @@ fn begin_game<R: Threads + Wait + Sync>(
     requires ready { IsReady lobby.now pass.old }
     ensures ready { IsReady lobby.now pass.new }
 {
-    let both = enter(rt, lobby, pass, 0) && enter(rt, lobby, pass, 1);
+    let both = enter(rt, lobby, pass, 0, 0) && enter(rt, lobby, pass, 0, 1);
     let plan = planned(rt, alloc, lobby, pass)?;
     let started = lobby.commit(rt, alloc, pass, 1_000, &plan);
     Ok(both && started == Ok(1))

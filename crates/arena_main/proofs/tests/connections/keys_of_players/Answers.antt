@@ -1,5 +1,5 @@
 use Rattle.std.proofs.Common.{length}
-use Rattle.host.proofs.Keyed.{keys_of_players}
+use Rattle.arena_main.proofs.Keyed.{keys_of_players}
 use Rattle.arena_main.proofs.tests.connections.keys_of_players.Goals as goal
 
 pub returns : goal.returns

@@ -1,5 +1,5 @@
 use Rattle.arena_history.specs.Stamps.{stamp_of}
-use Rattle.arena_core.proofs.Scripts.{answered_is_plan_of, is_ranking}
+use Rattle.arena_main.proofs.Plans.{answered_is_plan_of, is_ranking}
 use Rattle.arena_main.proofs.tests.arena.evenings.planned.Goals as goal
 
 pub plan-requires-clause-rows : goal.plan-requires-clause-rows

@@ -3,7 +3,7 @@ use Rattle.std.specs.Prelude.{All}
 use Rattle.std.proofs.lemmas.List.Elements.{All-push}
 use Rattle.entries.specs.Ranges.{IsPlayer}
 use Rattle.entries.specs.declared.setup.Player.{Player}
-use Rattle.arena_core.proofs.Scripts.{letters, names, one_name_more}
+use Rattle.arena_main.proofs.Letters.{letters, names, one_name_more}
 use Rattle.arena_main.proofs.tests.arena.evenings.players.Goals as goal
 
 pub making-preserved : goal.making-preserved

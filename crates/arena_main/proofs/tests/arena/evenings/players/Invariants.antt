@@ -1,7 +1,7 @@
 use Rattle.std.proofs.Common.{◌≡◌, length}
 use Rattle.std.specs.Prelude.{All}
 use Rattle.entries.specs.Ranges.{IsPlayer}
-use Rattle.arena_core.proofs.Scripts.{letters, names}
+use Rattle.arena_main.proofs.Letters.{letters, names}
 use Rattle.arena_main.proofs.tests.arena.evenings.players.Given as goal
 
 -- so many players are made, and their names are the first letters

@@ -1,4 +1,4 @@
-use Rattle.arena_lock.proofs.Plans.{stays_behind_commit}
+use Rattle.arena_main.proofs.LobbyPlans.{stays_behind_commit}
 use Rattle.arena_main.proofs.tests.lock.commits.commit.Goals as goal
 
 pub returns-clause-plan : goal.returns-clause-plan

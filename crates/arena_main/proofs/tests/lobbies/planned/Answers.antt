@@ -1,5 +1,5 @@
-use Rattle.arena_lock.proofs.Plans.{answered_is_plan_of, is_ranking}
-use Rattle.arena_main.proofs.tests.connections.planned.Goals as goal
+use Rattle.arena_main.proofs.LobbyPlans.{answered_is_plan_of, is_ranking}
+use Rattle.arena_main.proofs.tests.lobbies.planned.Goals as goal
 
 pub plan-requires-clause-rows : goal.plan-requires-clause-rows
 plan-requires-clause-rows g c κs within =

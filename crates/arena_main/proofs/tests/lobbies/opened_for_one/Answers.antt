@@ -1,7 +1,7 @@
 use Rattle.std.proofs.lemmas.List.Elements.{All-pop}
 use Rattle.std.specs.Prelude.{Some}
 use Rattle.arena_lock.specs.Turns.{IsReady}
-use Rattle.arena_main.proofs.tests.connections.wires.opened_for_one.Goals as goal
+use Rattle.arena_main.proofs.tests.lobbies.opened_for_one.Goals as goal
 
 pub returns-in-Some-clause-ready : goal.returns-in-Some-clause-ready
 returns-in-Some-clause-ready c =

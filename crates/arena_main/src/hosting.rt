@@ -222,6 +222,40 @@ fn close(rt: &HostRuntime, name: &str, journal: &File, end: ServeEnd) -> Status 
     }
 }
 
+// The evening by these workers, from the line that says where it listens to its end.
+fn run<T: Threads + Wait + Sync>(
+    rt: &HostRuntime,
+    threads: &T,
+    evening: Evening<'_>,
+    setup: Setup,
+    keys: &Keys,
+    workers: Vec<HostWorker<'_>>,
+    journal: (File, File),
+) -> Status
+    requires good { IsGood setup }
+    requires players { AreKeysOfPlayers (length setup.players) keys.now }
+    requires some { (1 ≤ length workers.items) × (length workers.items ≤ 256) }
+    requires solvers { All (λ worker. 0 < vec_len worker.solvers) workers.items }
+{
+    let (players, count, port) = (setup.players.items().len(), evening.workers, evening.port);
+    say(
+        rt,
+        format_args!("listening on 127.0.0.1:{port} for {players} players, with {count} workers"),
+    );
+    let (journal, twin) = journal;
+    let (mut journal, mut table) = (Writing::new(journal), Writing::new(rt.stdout()));
+    let end = serve_arena(
+        threads,
+        rt.alloc(),
+        setup,
+        keys,
+        workers,
+        &mut journal,
+        &mut table,
+    );
+    close(rt, evening.journal, &twin, end)
+}
+
 // The evening from its start to its end, or the status with which it could not start.
 fn play<T: Threads + Wait + Sync>(
     rt: &HostRuntime,
@@ -232,24 +266,9 @@ fn play<T: Threads + Wait + Sync>(
 {
     let (setup, keys) = open_setup(rt, evening.setup)?;
     let listener = open_port(rt, evening.port)?;
-    let (journal, twin) = open_journal(rt, evening.journal)?;
+    let journal = open_journal(rt, evening.journal)?;
     let workers = open_workers(rt, threads, &listener, evening.workers)?;
-    let (players, count, port) = (setup.players.items().len(), evening.workers, evening.port);
-    say(
-        rt,
-        format_args!("listening on 127.0.0.1:{port} for {players} players, with {count} workers"),
-    );
-    let (mut journal, mut table) = (Writing::new(journal), Writing::new(rt.stdout()));
-    let end = serve_arena(
-        threads,
-        rt.alloc(),
-        setup,
-        &keys,
-        workers,
-        &mut journal,
-        &mut table,
-    );
-    Ok(close(rt, evening.journal, &twin, end))
+    Ok(run(rt, threads, evening, setup, &keys, workers, journal))
 }
 
 /// Hosts an evening until its arena is over or full, and gives the status with which the program ends: that of `Status`, or 8 where

@@ -18,6 +18,7 @@ TOP = os.path.dirname(os.path.dirname(os.path.abspath(__file__)))
 PROGRAM = "arena_main"
 MEMORY_OF_A_CRATE = 4 << 30  # bytes that a proof takes at most, in the main
 LAST_LINES = 20
+WIDTH = 80  # of a terminal that does not tell its own
 
 
 def count_crates():
@@ -81,7 +82,7 @@ class Screen:
 
     def renew(self, line):
         if self.renews:
-            width = os.get_terminal_size(sys.stderr.fileno()).columns
+            width = os.get_terminal_size(sys.stderr.fileno()).columns or WIDTH
             print("\r\033[K" + f"arena: {line}"[: width - 1], end="", file=sys.stderr, flush=True)
 
     def spent(self):
@@ -116,7 +117,7 @@ def build(screen, run):
 
 def main():
     screen, total, side_by_side = Screen(), count_crates(), at_once()
-    screen.say(f"proving and building the program, {total} crates, {side_by_side} at a time; this takes some minutes the first time")
+    screen.say(f"proving and building the program, {total} crates, {side_by_side} at a time; this takes about half an hour the first time")
     run = Run(["rt", "all", "check", "--jobs", str(side_by_side)], "crates")
     try:
         good = prove(screen, run, total)
